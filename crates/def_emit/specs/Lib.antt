@@ -1,0 +1,9 @@
+pub use Rattle.def_slang.specs.BufferWrite
+pub use Rattle.def_spirv.specs.Words
+pub use Rattle.def_spirv.specs.Symbolic
+pub mod Lower
+pub mod Program
+pub mod Symbol
+pub mod Globals
+pub mod Body
+pub mod Emit

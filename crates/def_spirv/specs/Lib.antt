@@ -1,0 +1,4 @@
+pub mod Enumerants
+pub mod Opcodes
+pub mod Symbolic
+pub mod Words
