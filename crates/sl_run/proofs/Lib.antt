@@ -1,0 +1,12 @@
+pub mod Cuts
+pub mod Emitted
+pub mod Endings
+pub mod Found
+pub mod Names
+pub mod Numbers
+pub mod Replies
+pub mod Runs
+pub mod Short
+pub mod Texts
+pub mod TokenKinds
+pub mod Writes

@@ -1,0 +1,19 @@
+//! The top calls.
+#![tactic(auto)]
+
+mod alone;
+mod buffer_write;
+mod command;
+mod keyword;
+pub mod laws;
+mod module;
+mod number;
+mod reply;
+mod status;
+mod token;
+
+pub use alone::{report, run_alone};
+pub use status::Status;
+
+#[cfg(test)]
+mod tests;

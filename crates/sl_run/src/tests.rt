@@ -1,0 +1,288 @@
+use crate::{Status, run_alone};
+use sl_base::{Bytes, List};
+use sl_io::{MemorySink, MemorySource};
+use std::alloc::Global;
+use std::process::Abort;
+use std::test::Fail;
+
+/// A module that puts 1 into each element of `b`.
+const FIRST: &str = "RWStructuredBuffer<int> b;
+[shader(\"compute\")]
+[numthreads(1,1,1)]
+void main(uint3 id : SV_DispatchThreadID)
+{
+    b[id.x] = 1;
+}
+";
+
+/// The words of that module.
+#[rattlefmt::skip]
+const FIRST_WORDS: [u32; 176] = [
+    0x07230203, 0x00010500, 0x00000000, 0x0000001d, 0x00000000, 0x00020011, 0x00000001, 0x0003000e,
+    0x00000000, 0x00000001, 0x0007000f, 0x00000005, 0x00000001, 0x6e69616d, 0x00000000, 0x00000002,
+    0x00000003, 0x00060010, 0x00000001, 0x00000011, 0x00000001, 0x00000001, 0x00000001, 0x00040005,
+    0x00000001, 0x6e69616d, 0x00000000, 0x00030005, 0x00000003, 0x00000062, 0x00040047, 0x00000002,
+    0x0000000b, 0x0000001c, 0x00040047, 0x00000003, 0x00000022, 0x00000000, 0x00040047, 0x00000003,
+    0x00000021, 0x00000000, 0x00040047, 0x00000004, 0x00000006, 0x00000004, 0x00030047, 0x00000005,
+    0x00000002, 0x00050048, 0x00000005, 0x00000000, 0x00000023, 0x00000000, 0x00040015, 0x00000006,
+    0x00000020, 0x00000000, 0x00040017, 0x00000007, 0x00000006, 0x00000003, 0x00040020, 0x00000008,
+    0x00000001, 0x00000007, 0x0004003b, 0x00000008, 0x00000002, 0x00000001, 0x00040015, 0x00000009,
+    0x00000020, 0x00000001, 0x0003001d, 0x00000004, 0x00000009, 0x0003001e, 0x00000005, 0x00000004,
+    0x00040020, 0x0000000a, 0x0000000c, 0x00000005, 0x0004003b, 0x0000000a, 0x00000003, 0x0000000c,
+    0x00020013, 0x0000000b, 0x00030021, 0x0000000c, 0x0000000b, 0x00040020, 0x0000000d, 0x00000007,
+    0x00000006, 0x00020014, 0x0000000e, 0x00040020, 0x0000000f, 0x0000000c, 0x00000009, 0x0004002b,
+    0x00000006, 0x00000010, 0x00000000, 0x0004002b, 0x00000009, 0x00000011, 0x00000001, 0x00050036,
+    0x0000000b, 0x00000001, 0x00000000, 0x0000000c, 0x000200f8, 0x00000012, 0x0004003b, 0x0000000d,
+    0x00000013, 0x00000007, 0x0004003d, 0x00000007, 0x00000014, 0x00000002, 0x00050051, 0x00000006,
+    0x00000015, 0x00000014, 0x00000000, 0x0003003e, 0x00000013, 0x00000015, 0x0004003d, 0x00000006,
+    0x00000016, 0x00000013, 0x00050044, 0x00000006, 0x00000017, 0x00000003, 0x00000000, 0x000500b0,
+    0x0000000e, 0x00000018, 0x00000016, 0x00000017, 0x000300f7, 0x00000019, 0x00000000, 0x000400fa,
+    0x00000018, 0x0000001a, 0x00000019, 0x000200f8, 0x0000001a, 0x0004003d, 0x00000006, 0x0000001b,
+    0x00000013, 0x00060041, 0x0000000f, 0x0000001c, 0x00000003, 0x00000010, 0x0000001b, 0x0003003e,
+    0x0000001c, 0x00000011, 0x000200f9, 0x00000019, 0x000200f8, 0x00000019, 0x000100fd, 0x00010038,
+];
+
+/// Where the threads stand in these words, along x, y and z, and the number that is written.
+const THREADS: [usize; 3] = [20, 21, 22];
+
+const NUMBER: usize = 110;
+
+const NOT_BUILT: &str = "input:1:1: error E100: form not built yet\n";
+
+/// The calls that fail, counted from 1.
+#[derive(Clone, Copy)]
+struct Faults<'a> {
+    input: &'a [u64],
+    out: &'a [u64],
+    err: &'a [u64],
+}
+
+const NO_FAULTS: Faults = Faults {
+    input: &[],
+    out: &[],
+    err: &[],
+};
+
+/// How a run ended, and what was written.
+#[derive(Drop)]
+struct Ended {
+    status: Status,
+    out: MemorySink,
+    err: MemorySink,
+}
+
+fn sink(alloc: Global, fail_at: &[u64]) -> Result<MemorySink, Fail> {
+    let mut sink = MemorySink::new(alloc, 5, List::from_slice(alloc, fail_at)?);
+    sink.reserve(1000)?;
+    Ok(sink)
+}
+
+/// Runs over objects in memory, which read 100 bytes a call and write 5.
+fn run(alloc: Global, words: &[&str], text: &[u8], faults: Faults) -> Result<Ended, Fail> {
+    let mut owned = Vec::new(alloc);
+    for word in words {
+        owned.push(String::from_str(alloc, word)?)?;
+    }
+    let fail_at = List::from_slice(alloc, faults.input)?;
+    let mut input = MemorySource::new(Bytes::from_slice(alloc, text)?, 100, fail_at);
+    let mut out = sink(alloc, faults.out)?;
+    let mut err = sink(alloc, faults.err)?;
+    let status = run_alone(
+        alloc,
+        &owned,
+        &mut Vec::new(alloc),
+        &mut input,
+        &mut out,
+        &mut err,
+    );
+    Ok(Ended { status, out, err })
+}
+
+/// Words as bytes, the lowest byte of each first.
+fn bytes_of(alloc: Global, words: &[u32]) -> Result<Vec<u8>, Fail> {
+    let mut bytes = Vec::new(alloc);
+    for word in words {
+        bytes.extend_from_slice(&word.to_le_bytes())?;
+    }
+    Ok(bytes)
+}
+
+fn expect_ending(rt: &impl Abort, ended: &Ended, status: Status, out: &[u8], err: &str) {
+    assert_eq!(rt; ended.status, status);
+    assert_eq!(rt; ended.out.as_slice(), out);
+    assert_eq!(rt; ended.err.as_slice(), err.as_bytes());
+}
+
+#[test]
+fn one_writes_the_words_of_the_module(rt: HostRuntime) -> Result<(), Fail> {
+    let alloc = rt.alloc();
+    let ended = run(alloc, &["one", "main"], FIRST.as_bytes(), NO_FAULTS)?;
+    let bytes = bytes_of(alloc, &FIRST_WORDS)?;
+    expect_ending(&rt, &ended, Status::Done, &bytes, "");
+    Ok(())
+}
+
+#[test]
+fn threads_and_number_stand_in_the_words(rt: HostRuntime) -> Result<(), Fail> {
+    let alloc = rt.alloc();
+    let text =
+        b"\xEF\xBB\xBFRWStructuredBuffer < int>b ; [ shader(\"compute\")] [numthreads(2,\t3 ,170)]\r
+        void main(uint3 id:SV_DispatchThreadID){b[id . x]=2147483647;}";
+    let mut words = FIRST_WORDS;
+    words[THREADS[0]] = 2;
+    words[THREADS[1]] = 3;
+    words[THREADS[2]] = 170;
+    words[NUMBER] = 2147483647;
+    let ended = run(alloc, &["one", "main"], text, NO_FAULTS)?;
+    expect_ending(&rt, &ended, Status::Done, &bytes_of(alloc, &words)?, "");
+    Ok(())
+}
+
+#[test]
+fn another_entry_point_is_told(rt: HostRuntime) -> Result<(), Fail> {
+    let ended = run(rt.alloc(), &["one", "other"], FIRST.as_bytes(), NO_FAULTS)?;
+    let line = "request: error E601: no entry point other in input\n";
+    expect_ending(&rt, &ended, Status::Diagnosed, &[], line);
+    Ok(())
+}
+
+/// A module of one line with a buffer, the numbers of threads, a name of the id and a number.
+fn module(
+    alloc: Global,
+    buffer: &str,
+    threads: &str,
+    id: &str,
+    number: &str,
+) -> Result<String, Fail> {
+    Ok(format!(in alloc;
+        "RWStructuredBuffer<int> {buffer}; [shader(\"compute\")] [numthreads({threads})] void main(uint3 {id} : SV_DispatchThreadID) {{ {buffer}[{id}.x] = {number}; }}"
+    )?)
+}
+
+#[test]
+fn only_modules_of_the_form_are_built(rt: HostRuntime) -> Result<(), Fail> {
+    let alloc = rt.alloc();
+    for (buffer, threads, id, number, built) in [
+        ("b", "1,1,1", "id", "0", true),
+        ("b", "1024,1,1", "id", "1", true),
+        ("SV_DispatchThreadID", "1,1,1", "compute", "1", true),
+        ("b", "1025,1,1", "id", "1", false),
+        ("b", "1,0,1", "id", "1", false),
+        ("b", "32,33,1", "id", "1", false),
+        ("b", "1,1,01", "id", "1", false),
+        ("b", "1,1,1u", "id", "1", false),
+        ("b", "1,1,1", "id", "2147483648", false),
+        ("b", "1,1,1", "id", "+1", false),
+        ("b", "1,1,1", "id", "0x1", false),
+        ("b", "1,1,1", "id", "1 // one", false),
+        ("b", "1,1,1", "b", "1", false),
+        ("main", "1,1,1", "id", "1", false),
+        ("int", "1,1,1", "id", "1", false),
+        ("b", "1,1,1", "1d", "1", false),
+    ] {
+        let text = module(alloc, buffer, threads, id, number)?;
+        let ended = run(alloc, &["one", "main"], text.as_bytes(), NO_FAULTS)?;
+        let status = if built {
+            Status::Done
+        } else {
+            Status::Diagnosed
+        };
+        assert_eq!(rt; ended.status, status, "{text}");
+        let line = if built { "" } else { NOT_BUILT };
+        assert_eq!(rt; ended.err.as_slice(), line.as_bytes(), "{text}");
+    }
+    Ok(())
+}
+
+#[test]
+fn an_empty_input_is_not_built(rt: HostRuntime) -> Result<(), Fail> {
+    let ended = run(rt.alloc(), &["one", "main"], b"", NO_FAULTS)?;
+    expect_ending(&rt, &ended, Status::Diagnosed, &[], NOT_BUILT);
+    Ok(())
+}
+
+fn expect_usage(rt: &(impl Abort + AllocGlobal), words: &[&str]) -> Result<(), Fail> {
+    let ended = run(rt.alloc(), words, FIRST.as_bytes(), NO_FAULTS)?;
+    let line = "usage: slangrun one ENTRY\n";
+    expect_ending(rt, &ended, Status::Usage, &[], line);
+    Ok(())
+}
+
+#[test]
+fn other_words_are_no_command(rt: HostRuntime) -> Result<(), Fail> {
+    expect_usage(&rt, &[])?;
+    expect_usage(&rt, &["one"])?;
+    expect_usage(&rt, &["one", "1a"])?;
+    expect_usage(&rt, &["One", "main"])?;
+    expect_usage(&rt, &["one", "main", "main"])
+}
+
+#[test]
+fn faults_of_each_object_are_told(rt: HostRuntime) -> Result<(), Fail> {
+    let alloc = rt.alloc();
+    let words = ["one", "main"];
+    let input = Faults {
+        input: &[2],
+        ..NO_FAULTS
+    };
+    let ended = run(alloc, &words, FIRST.as_bytes(), input)?;
+    expect_ending(
+        &rt,
+        &ended,
+        Status::ReadFault,
+        &[],
+        "slangrun: read failed\n",
+    );
+
+    let out = Faults {
+        out: &[2],
+        ..NO_FAULTS
+    };
+    let ended = run(alloc, &words, FIRST.as_bytes(), out)?;
+    let status = Status::WriteFault { written: 5 };
+    let part = [0x03, 0x02, 0x23, 0x07, 0x00];
+    expect_ending(&rt, &ended, status, &part, "slangrun: write failed\n");
+
+    let err = Faults {
+        err: &[3],
+        ..NO_FAULTS
+    };
+    let ended = run(alloc, &words, b"", err)?;
+    expect_ending(
+        &rt,
+        &ended,
+        Status::WriteFault { written: 10 },
+        &[],
+        "input:1:1:",
+    );
+    let ended = run(alloc, &["two"], b"", err)?;
+    expect_ending(&rt, &ended, Status::Usage, &[], "usage: sla");
+    Ok(())
+}
+
+#[test]
+fn an_input_has_at_most_262144_bytes(rt: HostRuntime) -> Result<(), Fail> {
+    let alloc = rt.alloc();
+    let text = vec![in alloc; b' '; 262_145]?;
+    let ended = run(alloc, &["one", "main"], &text[1..], NO_FAULTS)?;
+    expect_ending(&rt, &ended, Status::Diagnosed, &[], NOT_BUILT);
+    let ended = run(alloc, &["one", "main"], &text, NO_FAULTS)?;
+    let line = "slangrun: limit: input is too large\n";
+    expect_ending(&rt, &ended, Status::InputTooLarge, &[], line);
+    Ok(())
+}
+
+#[test]
+fn statuses_have_their_numbers(rt: HostRuntime) {
+    for (status, number) in [
+        (Status::Done, 0),
+        (Status::Diagnosed, 1),
+        (Status::Usage, 2),
+        (Status::InputTooLarge, 2),
+        (Status::ReadFault, 4),
+        (Status::WriteFault { written: 1 }, 5),
+        (Status::NoMemory, 6),
+    ] {
+        assert_eq!(rt; status.number(), number);
+    }
+}
