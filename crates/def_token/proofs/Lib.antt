@@ -1,0 +1,5 @@
+pub mod Determined
+pub mod Facts
+pub mod Fitting
+pub mod Numbers
+pub mod Pieces

@@ -1,0 +1,4 @@
+pub mod Lexeme
+pub mod Lexical
+pub mod Mark
+pub mod Number

@@ -1,0 +1,6 @@
+//! What the tokens of a text are: its pieces, marks and numbers, and its first lexical fault.
+//!
+//! This crate holds definitions (`specs/`) and laws about them.
+#![tactic(auto)]
+
+pub mod laws;
