@@ -1,0 +1,10 @@
+pub mod Asking
+pub mod Formed
+pub mod Gathering
+pub mod Kept
+pub mod Names
+pub mod Results
+pub mod Seen
+pub mod Sets
+pub mod Told
+pub mod Walk

@@ -1,0 +1,16 @@
+use Rattle.std.proofs.Common.{◌≡◌, length, map}
+use Rattle.sl_roots.specs.State.{root_state}
+use Rattle.sl_roots.proofs.Asking.{Passed}
+use Rattle.sl_roots.proofs.ask.ask.Given as goal
+
+abbrev pub invariant-loop-at : goal.invariant-loop-at
+invariant-loop-at g l = record {
+  as_many : length l.roots.items ≡ length l.initial.roots.items;
+  passed : Passed l.name l.at
+      (map (λ b. root_state ((goal.SourceRoot-dyn g (b.vtable, b.value)).files b.value)
+      ((goal.SourceRoot-dyn g (b.vtable, b.value)).steady b.value)
+      ((goal.SourceRoot-dyn g (b.vtable, b.value)).faults b.value)) l.initial.roots.items)
+      (map (λ b. root_state ((goal.SourceRoot-dyn g (b.vtable, b.value)).files b.value)
+      ((goal.SourceRoot-dyn g (b.vtable, b.value)).steady b.value)
+      ((goal.SourceRoot-dyn g (b.vtable, b.value)).faults b.value)) l.roots.items);
+}
