@@ -1,0 +1,10 @@
+pub mod Walks
+pub mod Maps
+pub mod Runs
+pub mod Correct
+pub mod Least
+pub mod Loops
+pub mod Decide
+pub mod OneCycle
+pub mod Laws
+pub mod Edges

@@ -1,0 +1,9 @@
+pub mod Keys
+pub mod Map
+pub mod Meaning
+pub mod Settles
+pub mod Cycle
+pub mod Answer
+pub mod Lawful
+pub mod Laws
+pub mod Edges

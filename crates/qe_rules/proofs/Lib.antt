@@ -1,0 +1,6 @@
+pub mod Advancing
+pub mod Asking
+pub mod Closing
+pub mod Lists
+pub mod Rising
+pub mod Working

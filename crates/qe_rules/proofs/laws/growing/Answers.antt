@@ -1,0 +1,5 @@
+use Rattle.def_query.proofs.Laws.{growing}
+use Rattle.qe_rules.proofs.laws.growing.Goals as goal
+
+pub returns : goal.returns
+returns g c = λ rules. growing g.R.Key.Ord.cmp g.met.R.Key.Ord.total (g.R.Rules.meaning rules) (g.met.R.Rules.lawful rules)
