@@ -1,0 +1,12 @@
+pub mod Prefixes
+pub mod Books
+pub mod Seats
+pub mod Keeping
+pub mod Drawing
+pub mod Entering
+pub mod Raising
+pub mod Splitting
+pub mod Joining
+pub mod Ends
+pub mod Turning
+pub mod Held
