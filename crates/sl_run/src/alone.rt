@@ -16,7 +16,8 @@ use std::alloc::Global;
 /// The greatest number of bytes of a module.
 const MOST_BYTES: usize = 262_144;
 
-/// Runs a command on one thread: `words` are the words of the command line after the program's name.
+/// Runs a command on one thread: `words` are the words of the command line after the program's
+/// name.
 ///
 /// `one ENTRY` reads one module from `input` and writes the bytes of its words to `out`, or its
 /// diagnostics to `err`, one a line. At every other status than `Done` and `Diagnosed` one line on

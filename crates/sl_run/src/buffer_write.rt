@@ -3,14 +3,14 @@
 ghost use Rattle.std.specs.Prelude.{◌≡◌, ℕ, ◌<◌, ◌^◌, ◌≤◌, ◌*◌, ◌↔◌, IsTrue, IfOk, IfSome, IfNone, IsSomeAnd};
 ghost use Rattle.std.specs.Fmt.{decimal};
 ghost use Rattle.def_slang.specs.BufferWrite as form;
-ghost use Rattle.def_slang.specs.BufferWrite.{tokens_of, IsAllowed, IsBufferWrite, IsGroup};
+ghost use Rattle.def_slang.specs.BufferWrite.{tokens_of, IsAllowed, IsBufferWrite, IsGroup, is_free_name};
 ghost use Rattle.def_slang.specs.Token.{without_mark};
 ghost use Rattle.sl_run.specs.Reading.{write_of, texts, HasSmallNumbers};
 
-use crate::keyword::is_free_name;
 use crate::number::number;
 use crate::token::tokens;
-use sl_base::NoMemory;
+use sl_base::{NoMemory, is_name};
+use sl_token::is_keyword;
 use std::alloc::Global;
 
 /// The UTF-8 byte order mark (Unicode, 23.8, "Specials").
@@ -32,7 +32,8 @@ pub struct BufferWrite<'a> {
 impl<'a> BufferWrite<'a> {
     /// The module that a text is, if it is one of this form.
     pub fn read(alloc: Global, text: &'a [u8]) -> Result<Option<BufferWrite<'a>>, NoMemory>
-        ensures found { IfOk result (λ found. IfSome found (λ write. IsBufferWrite text.now (write_of write))) }
+        ensures found { IfOk result (λ found.
+            IfSome found (λ write. IsBufferWrite text.now (write_of write))) }
         ensures only { IfOk result (λ found. (w : form.BufferWrite) → IsBufferWrite text.now w
             → IsSomeAnd found (λ write. write_of write ≡ w)) }
     {
@@ -56,6 +57,13 @@ impl<'a> BufferWrite<'a> {
             && is_group(self.threads)
             && self.value <= i32::MAX as u32
     }
+}
+
+/// Whether a word is a name that a declaration can have.
+fn is_free_name(word: &[u8]) -> bool
+    ensures { result ≡ is_free_name word.now }
+{
+    is_name(word) && !is_keyword(word)
 }
 
 /// Whether a group may have these numbers of threads along x, y and z.
@@ -122,7 +130,8 @@ const VALUE: usize = 38;
 fn parsed<'a>(tokens: &[&'a [u8]]) -> Option<BufferWrite<'a>>
     ensures some { IfSome result (λ write. texts tokens.now ≡ tokens_of (write_of write)) }
     ensures small { IfSome result (λ write. HasSmallNumbers (write_of write)) }
-    ensures none { IfNone result ((w : form.BufferWrite) → HasSmallNumbers w → texts tokens.now ≡ tokens_of w → ⊥) }
+    ensures none { IfNone result ((w : form.BufferWrite) → HasSmallNumbers w
+        → texts tokens.now ≡ tokens_of w → ⊥) }
 {
     if tokens.len() != TOKENS {
         return None;
@@ -154,6 +163,7 @@ fn are_same(tokens: &[&[u8]], others: &[&[u8]]) -> bool
 }
 
 /// All tokens of a module.
+#[rattlefmt::skip]
 fn spelling<'a>(write: &BufferWrite<'a>, numbers: &Numbers<'a>) -> [&'a [u8]; TOKENS]
     requires x { numbers.now.x.now ≡ decimal write.now.threads.0 }
     requires y { numbers.now.y.now ≡ decimal write.now.threads.1 }
@@ -162,46 +172,12 @@ fn spelling<'a>(write: &BufferWrite<'a>, numbers: &Numbers<'a>) -> [&'a [u8]; TO
     ensures { texts result ≡ tokens_of (write_of write.now) }
 {
     [
-        b"RWStructuredBuffer",
-        b"<",
-        b"int",
-        b">",
-        write.buffer,
-        b";",
-        b"[",
-        b"shader",
-        b"(",
-        b"\"compute\"",
-        b")",
-        b"]",
-        b"[",
-        b"numthreads",
-        b"(",
-        numbers.x,
-        b",",
-        numbers.y,
-        b",",
-        numbers.z,
-        b")",
-        b"]",
-        b"void",
-        write.entry,
-        b"(",
-        b"uint3",
-        write.id,
-        b":",
-        b"SV_DispatchThreadID",
-        b")",
+        b"RWStructuredBuffer", b"<", b"int", b">", write.buffer, b";",
+        b"[", b"shader", b"(", b"\"compute\"", b")", b"]",
+        b"[", b"numthreads", b"(", numbers.x, b",", numbers.y, b",", numbers.z, b")", b"]",
+        b"void", write.entry, b"(", b"uint3", write.id, b":", b"SV_DispatchThreadID", b")",
         b"{",
-        write.buffer,
-        b"[",
-        write.id,
-        b".",
-        b"x",
-        b"]",
-        b"=",
-        numbers.value,
-        b";",
+        write.buffer, b"[", write.id, b".", b"x", b"]", b"=", numbers.value, b";",
         b"}",
     ]
 }

@@ -4,7 +4,6 @@
 mod alone;
 mod buffer_write;
 mod command;
-mod keyword;
 pub mod laws;
 mod module;
 mod number;

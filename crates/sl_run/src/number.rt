@@ -4,7 +4,8 @@ ghost use Rattle.std.specs.Prelude.{◌≡◌, ℕ, ◌<◌, ◌^◌, false, IfS
 ghost use Rattle.std.specs.Fmt.{decimal};
 ghost use Rattle.sl_run.specs.Number.{has_other_spelling};
 
-/// The number below 2^32 that a token spells in decimal digits, without sign, suffix or leading zero.
+/// The number below 2^32 that a token spells in decimal digits, without sign, suffix or leading
+/// zero.
 pub fn number(token: &[u8]) -> Option<u32>
     ensures spelled { IfSome result (λ n. token.now ≡ decimal n) }
     ensures none { IfNone result ((n : ℕ) → n < 2 ^ 32 → token.now ≡ decimal n → ⊥) }

@@ -35,7 +35,8 @@ pub fn reply_to(alloc: Global, entry: &[u8], text: &[u8]) -> Result<Reply, NoMem
 
 fn compiled(alloc: Global, write: &BufferWrite) -> Result<Bytes, NoMemory>
     requires { IsAllowed (write_of write.now) }
-    ensures { IfOk result (λ bytes. bytes ≡ spelling (emitted (program_of (write_of write.now)))) }
+    ensures { IfOk result (λ bytes.
+        bytes ≡ spelling (emitted (program_of (write_of write.now)))) }
 {
     let words = module(alloc, write)?;
     encode(alloc, &words)

@@ -43,7 +43,8 @@ pub fn push_entry_points(insts: &mut Instructions, write: &BufferWrite) -> Resul
 
 /// Declares how many threads a group has.
 pub fn push_execution_modes(insts: &mut Instructions, write: &BufferWrite) -> Result<(), NoMemory>
-    ensures { OnOk result (insts.new ≡ insts.old ++ section.execution_modes (write_of write.now)) }
+    ensures { OnOk result
+        (insts.new ≡ insts.old ++ section.execution_modes (write_of write.now)) }
 {
     let (x, y, z) = write.threads;
     insts.push(
