@@ -10,3 +10,4 @@ pub mod Joining
 pub mod Ends
 pub mod Turning
 pub mod Held
+pub mod Crossing

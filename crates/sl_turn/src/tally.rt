@@ -4,6 +4,10 @@ ghost use Rattle.std.specs.Prelude.{◌≡◌, ◌<◌, length};
 
 use crate::{StandsFor, Turned, Work};
 use sl_base::List;
+use std::sync::atomic::AtomicBool;
+use std::sync::atomic::Ordering::SeqCst;
+use std::thread;
+use std::time::{Clock, Duration};
 
 /// Whose turn it was, and which of its turns.
 #[derive(Clone, Copy, Debug, PartialEq, Eq)]
@@ -69,5 +73,34 @@ impl Work<Tally> for Add {
             Ok(()) => Turned::Entered(place),
             Err(_) => Turned::Unchanged(place),
         }
+    }
+}
+
+/// Says that it is in its turn, stays in it for a while, and adds an entry.
+#[derive(Drop)]
+pub struct AddSlowly<'a, R> {
+    pub rt: &'a R,
+    pub inside: &'a AtomicBool,
+    pub add: Add,
+}
+
+impl<R: Clock> Work<Tally> for AddSlowly<'_, R> {
+    type Out = u64;
+
+    ghost use Rattle.std.specs.Prelude.{◌≡◌, ◌<◌, length};
+    ghost use Rattle.sl_turn.specs.Once.{IfEntered, IfUnchanged};
+
+    ghost entry = { λ slow. record { caller = slow.add.caller; step = slow.add.step } };
+
+    ghost fits = { λ slow history. Unit {0} };
+
+    ghost tells = { λ slow limit history turned.
+        IfEntered turned (λ place. (place ≡ length history) × (place < limit))
+        × IfUnchanged turned (λ place. place ≡ length history) };
+
+    fn turn(&mut self, value: &mut Tally) -> Turned<u64> {
+        self.inside.store(true, SeqCst);
+        thread::sleep(self.rt, Duration::from_millis(50));
+        self.add.turn(value)
     }
 }
