@@ -41,3 +41,16 @@ pub trait SourceRoot: Drop {
         ensures as_steady { steady self.new ≡ steady self.old }
         ensures steady { IsTrue (steady self.old) → files self.new ≡ files self.old };
 }
+
+// Roots of several kinds can stand in one list where each is boxed.
+impl SourceRoot for Box<dyn SourceRoot> {
+    ghost files = { λ b. (SourceRoot-box b).files b.value };
+
+    ghost steady = { λ b. (SourceRoot-box b).steady b.value };
+
+    ghost faults = { λ b. (SourceRoot-box b).faults b.value };
+
+    fn fetch(&mut self, alloc: Global, name: &Name, max: usize) -> Fetched {
+        (**self).fetch(alloc, name, max)
+    }
+}

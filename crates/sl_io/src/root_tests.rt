@@ -37,15 +37,15 @@ impl SourceRoot for OneModule {
 }
 
 /// What one root of many answers.
-fn fetch_from(root: &mut Box<dyn SourceRoot>, alloc: Global, name: &Name, max: usize) -> Fetched
-    ensures { Fetches result max name.now (files root.old) }
+fn fetch_from<R: SourceRoot>(root: &mut R, alloc: Global, name: &Name, max: usize) -> Fetched
+    ensures { Fetches result max name.now (R.files root.old) }
 {
     root.fetch(alloc, name, max)
 }
 
 /// The first root's answer that is not `Absent`.
-fn fetch_first(
-    roots: &mut Vec<Box<dyn SourceRoot>>,
+fn fetch_first<R: SourceRoot>(
+    roots: &mut Vec<R>,
     alloc: Global,
     name: &Name,
     max: usize,

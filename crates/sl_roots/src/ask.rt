@@ -19,10 +19,10 @@ pub struct Answer {
 }
 
 /// Asks the roots for a name, in order, until one of them has an answer other than `Absent`.
-pub fn ask(alloc: Global, roots: &mut Vec<Box<dyn SourceRoot>>, name: &Name) -> Answer
+pub fn ask<R: SourceRoot>(alloc: Global, roots: &mut Vec<R>, name: &Name) -> Answer
     ensures { Ask name.now result.asked result.fetched
-        (map (λ r. root_state (files r) (steady r) (faults r)) roots.old.items)
-        (map (λ r. root_state (files r) (steady r) (faults r)) roots.new.items) }
+        (map (λ r. root_state (R.files r) (R.steady r) (R.faults r)) roots.old.items)
+        (map (λ r. root_state (R.files r) (R.steady r) (R.faults r)) roots.new.items) }
 {
     for at in 0..roots.len() {
         match fetch_from(alloc, &mut roots[at], name) {
@@ -42,10 +42,10 @@ pub fn ask(alloc: Global, roots: &mut Vec<Box<dyn SourceRoot>>, name: &Name) -> 
 }
 
 /// Asks one root.
-fn fetch_from(alloc: Global, root: &mut Box<dyn SourceRoot>, name: &Name) -> Fetched
+fn fetch_from<R: SourceRoot>(alloc: Global, root: &mut R, name: &Name) -> Fetched
     ensures { Fetch name.now result
-        (root_state (files root.old) (steady root.old) (faults root.old))
-        (root_state (files root.new) (steady root.new) (faults root.new)) }
+        (root_state (R.files root.old) (R.steady root.old) (R.faults root.old))
+        (root_state (R.files root.new) (R.steady root.new) (R.faults root.new)) }
 {
     root.fetch(alloc, name, MOST_BYTES)
 }

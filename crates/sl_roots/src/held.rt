@@ -24,7 +24,7 @@ pub fn fetch_held(alloc: Global, files: &List<(Name, Bytes)>, name: &Name, max: 
 }
 
 /// The bytes of the first module with a name.
-fn bytes_of<'a>(files: &'a List<(Name, Bytes)>, name: &Name) -> Option<&'a [u8]>
+pub fn bytes_of<'a>(files: &'a List<(Name, Bytes)>, name: &Name) -> Option<&'a [u8]>
     ensures some { IfSome result (λ bytes. bytes_of files.now name.now ≡ Some bytes.now) }
     ensures none { IsNone result → bytes_of files.now name.now ≡ None }
 {

@@ -22,29 +22,29 @@ const MOST_MODULES: usize = 256;
 /// Each name is taken once, in the order of first mention. The roots are asked for it in order, each
 /// at most once, and the first one that does not answer `Absent` decides. The first refusal ends the
 /// loading; the roots are then as their fetches left them.
-pub fn load(
+pub fn load<R: SourceRoot>(
     alloc: Global,
-    roots: &mut Vec<Box<dyn SourceRoot>>,
+    roots: &mut Vec<R>,
     names: &List<Name>,
 ) -> Result<SourceSet, LoadRefusal>
     ensures fetches { MatchResult result
         (λ set. Loads names.now (sources_of set)
-        (map (λ r. root_state (files r) (steady r) (faults r)) roots.old.items)
-        (map (λ r. root_state (files r) (steady r) (faults r)) roots.new.items))
+        (map (λ r. root_state (R.files r) (R.steady r) (R.faults r)) roots.old.items)
+        (map (λ r. root_state (R.files r) (R.steady r) (R.faults r)) roots.new.items))
         (λ refusal. Refuses refusal names.now
-        (map (λ r. root_state (files r) (steady r) (faults r)) roots.old.items)
-        (map (λ r. root_state (files r) (steady r) (faults r)) roots.new.items)) }
+        (map (λ r. root_state (R.files r) (R.steady r) (R.faults r)) roots.old.items)
+        (map (λ r. root_state (R.files r) (R.steady r) (R.faults r)) roots.new.items)) }
     ensures well_formed { IfOk result (λ set. WellFormed names.now (sources_of set)) }
     ensures fault { IfErr result (λ refusal. ShowsFault refusal
-        (map (λ r. root_state (files r) (steady r) (faults r)) roots.old.items)
-        (map (λ r. root_state (files r) (steady r) (faults r)) roots.new.items)) }
+        (map (λ r. root_state (R.files r) (R.steady r) (R.faults r)) roots.old.items)
+        (map (λ r. root_state (R.files r) (R.steady r) (R.faults r)) roots.new.items)) }
     ensures keeps { Keep
-        (map (λ r. root_state (files r) (steady r) (faults r)) roots.old.items)
-        (map (λ r. root_state (files r) (steady r) (faults r)) roots.new.items) }
+        (map (λ r. root_state (R.files r) (R.steady r) (R.faults r)) roots.old.items)
+        (map (λ r. root_state (R.files r) (R.steady r) (R.faults r)) roots.new.items) }
 
     // Where the roots tell what they hold and are steady, the sources and the refusals are theirs.
     ensures told { (maps : List (List (List ℕ × List ℕ)))
-        → Tell (map (λ r. root_state (files r) (steady r) (faults r)) roots.old.items) maps
+        → Tell (map (λ r. root_state (R.files r) (R.steady r) (R.faults r)) roots.old.items) maps
         → MatchResult result
         (λ set. Loaded maps names.now (sources_of set))
         (λ refusal. RefusesTold refusal names.now maps) }
@@ -53,18 +53,18 @@ pub fn load(
 }
 
 /// Takes the names that are not taken yet, one after another.
-fn gather(
+fn gather<R: SourceRoot>(
     alloc: Global,
-    roots: &mut Vec<Box<dyn SourceRoot>>,
+    roots: &mut Vec<R>,
     names: &List<Name>,
 ) -> Result<SourceSet, LoadRefusal>
     ensures { MatchResult result
         (λ set. Loads names.now (sources_of set)
-        (map (λ r. root_state (files r) (steady r) (faults r)) roots.old.items)
-        (map (λ r. root_state (files r) (steady r) (faults r)) roots.new.items))
+        (map (λ r. root_state (R.files r) (R.steady r) (R.faults r)) roots.old.items)
+        (map (λ r. root_state (R.files r) (R.steady r) (R.faults r)) roots.new.items))
         (λ refusal. Refuses refusal names.now
-        (map (λ r. root_state (files r) (steady r) (faults r)) roots.old.items)
-        (map (λ r. root_state (files r) (steady r) (faults r)) roots.new.items)) }
+        (map (λ r. root_state (R.files r) (R.steady r) (R.faults r)) roots.old.items)
+        (map (λ r. root_state (R.files r) (R.steady r) (R.faults r)) roots.new.items)) }
 {
     let mut set = SourceSet::new(alloc);
     for name in names.as_slice() {
@@ -76,20 +76,20 @@ fn gather(
 }
 
 /// Asks the roots for a name, and adds it to the set with the module that was found, or as absent.
-fn take(
+fn take<R: SourceRoot>(
     alloc: Global,
-    roots: &mut Vec<Box<dyn SourceRoot>>,
+    roots: &mut Vec<R>,
     name: &Name,
     set: &mut SourceSet,
 ) -> Result<(), LoadRefusal>
     requires { length set.old.modules ≤ most_modules }
     ensures ok { OnOk result (Gains name.now (sources_of set.old) (sources_of set.new)
-        (map (λ r. root_state (files r) (steady r) (faults r)) roots.old.items)
-        (map (λ r. root_state (files r) (steady r) (faults r)) roots.new.items)) }
+        (map (λ r. root_state (R.files r) (R.steady r) (R.faults r)) roots.old.items)
+        (map (λ r. root_state (R.files r) (R.steady r) (R.faults r)) roots.new.items)) }
     ensures few { OnOk result (length set.new.modules ≤ most_modules) }
     ensures err { IfErr result (λ refusal. Fails refusal name.now (sources_of set.old)
-        (map (λ r. root_state (files r) (steady r) (faults r)) roots.old.items)
-        (map (λ r. root_state (files r) (steady r) (faults r)) roots.new.items)) }
+        (map (λ r. root_state (R.files r) (R.steady r) (R.faults r)) roots.old.items)
+        (map (λ r. root_state (R.files r) (R.steady r) (R.faults r)) roots.new.items)) }
 {
     let answer = ask(alloc, roots, name);
     let name = name.copy(alloc)?;

@@ -1,9 +1,11 @@
 //! Sources that were loaded.
 
-ghost use Rattle.std.specs.Prelude.{◌≡◌};
+ghost use Rattle.std.specs.Prelude.{◌≡◌, Some, None, IfSome, IsNone};
 ghost use Rattle.std.specs.List.{list_any};
 ghost use Rattle.std.specs.Str.{bytes_eq};
+ghost use Rattle.sl_io.specs.Root.{bytes_of};
 
+use crate::held::bytes_of;
 use sl_base::{Bytes, List, Name};
 use std::alloc::Global;
 
@@ -27,6 +29,14 @@ impl SourceSet {
             modules: List::new(alloc),
             absent: List::new(alloc),
         }
+    }
+
+    /// The bytes of the module with a name, if there is one.
+    pub fn bytes_of(&self, name: &Name) -> Option<&[u8]>
+        ensures some { IfSome result (λ bytes. bytes_of self.now.modules name.now ≡ Some bytes.now) }
+        ensures none { IsNone result → bytes_of self.now.modules name.now ≡ None }
+    {
+        bytes_of(&self.modules, name)
     }
 
     /// Whether a name is that of a module or is absent.

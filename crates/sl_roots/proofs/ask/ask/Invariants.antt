@@ -7,10 +7,6 @@ abbrev pub invariant-loop-at : goal.invariant-loop-at
 invariant-loop-at g l = record {
   as_many : length l.roots.items ≡ length l.initial.roots.items;
   passed : Passed l.name l.at
-      (map (λ b. root_state ((goal.SourceRoot-dyn g (b.vtable, b.value)).files b.value)
-      ((goal.SourceRoot-dyn g (b.vtable, b.value)).steady b.value)
-      ((goal.SourceRoot-dyn g (b.vtable, b.value)).faults b.value)) l.initial.roots.items)
-      (map (λ b. root_state ((goal.SourceRoot-dyn g (b.vtable, b.value)).files b.value)
-      ((goal.SourceRoot-dyn g (b.vtable, b.value)).steady b.value)
-      ((goal.SourceRoot-dyn g (b.vtable, b.value)).faults b.value)) l.roots.items);
+      (map (λ r. root_state (g.R.SourceRoot.files r) (g.R.SourceRoot.steady r) (g.R.SourceRoot.faults r)) l.initial.roots.items)
+      (map (λ r. root_state (g.R.SourceRoot.files r) (g.R.SourceRoot.steady r) (g.R.SourceRoot.faults r)) l.roots.items);
 }

@@ -10,13 +10,9 @@ use Rattle.sl_roots.proofs.loading.gather.Given as goal
 abbrev pub invariant-loop-name : goal.invariant-loop-name
 invariant-loop-name g l = record {
   gathers : Gathers l.fn.names
-      (map (λ b. root_state ((goal.SourceRoot-dyn g (b.vtable, b.value)).files b.value)
-      ((goal.SourceRoot-dyn g (b.vtable, b.value)).steady b.value)
-      ((goal.SourceRoot-dyn g (b.vtable, b.value)).faults b.value)) l.fn.roots.items)
+      (map (λ r. root_state (g.R.SourceRoot.files r) (g.R.SourceRoot.steady r) (g.R.SourceRoot.faults r)) l.fn.roots.items)
       (sources_of l.set)
-      (map (λ b. root_state ((goal.SourceRoot-dyn g (b.vtable, b.value)).files b.value)
-      ((goal.SourceRoot-dyn g (b.vtable, b.value)).steady b.value)
-      ((goal.SourceRoot-dyn g (b.vtable, b.value)).faults b.value)) l.roots.items);
+      (map (λ r. root_state (g.R.SourceRoot.files r) (g.R.SourceRoot.steady r) (g.R.SourceRoot.faults r)) l.roots.items);
   few : length l.set.modules ≤ most_modules;
   seen : (k : ℕ) → k < l.name-index
       → list_any (bytes_eq (get_or l.fn.names k [])) (names_of (sources_of l.set)) ≡ true;
