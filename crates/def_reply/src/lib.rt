@@ -1,0 +1,6 @@
+//! What requests reply to sources, and the text that tells replies.
+//!
+//! This crate holds definitions (`specs/`), and in `laws` what follows from them.
+#![tactic(auto)]
+
+pub mod laws;
