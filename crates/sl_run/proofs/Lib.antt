@@ -1,10 +1,13 @@
+pub mod Compilations
 pub mod Cuts
 pub mod Emitted
 pub mod Endings
 pub mod Found
+pub mod Lines
+pub mod Loading
 pub mod Names
+pub mod Numbered
 pub mod Numbers
-pub mod Replies
 pub mod Runs
 pub mod Short
 pub mod Texts

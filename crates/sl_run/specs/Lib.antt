@@ -1,15 +1,26 @@
 pub use Rattle.def_emit.specs.Emit
 pub use Rattle.def_emit.specs.Lower
+pub use Rattle.def_reply.specs.Replies
+pub use Rattle.def_reply.specs.Request
+pub use Rattle.def_reply.specs.Text
 pub use Rattle.def_slang.specs.BufferWrite
+pub use Rattle.def_sources.specs.Loaded
+pub use Rattle.def_sources.specs.Sources
 pub use Rattle.def_spirv.specs.Words
 pub use Rattle.sl_base.specs.Diag
 pub use Rattle.sl_io.specs.Faults
 pub use Rattle.sl_io.specs.Sink
+pub use Rattle.sl_roots.specs.Load
+pub use Rattle.sl_roots.specs.State
 -- What the public contracts rest on.
+pub mod Check
 pub mod Command
-pub mod Reply
+pub mod Compile
+pub mod One
 pub mod RunAlone
+pub mod Seen
 pub mod Status
+pub mod Views
 -- What functions inside promise each other.
 pub mod Cutting
 pub mod Ending

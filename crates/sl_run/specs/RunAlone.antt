@@ -1,111 +1,59 @@
 -- What `run_alone` promises, by the status that it answers.
-use Rattle.std.specs.Prelude.{◌≡◌, ℕ, ◌<◌, ◌≤◌, ◌⊎◌, Bool, true, false, List, [], length, take, Option, Some, None, IfSome, IsSome}
-use Rattle.sl_io.specs.Faults.{Rose}
-use Rattle.sl_io.specs.Sink.{Gains}
-use Rattle.sl_run.specs.declared.reply.Reply.TheVariants.{Code, Diagnostics}
+use Rattle.std.specs.Prelude.{◌≡◌, Bool, true, false, Option, Some, None}
+use Rattle.sl_run.specs.Command.{Command, One, Check}
+use Rattle.sl_run.specs.Check.{EndsCheck}
+use Rattle.sl_run.specs.One.{EndsOne}
+use Rattle.sl_run.specs.Seen.{Seen, SeenRoots, Reports}
 use Rattle.sl_run.specs.declared.status.Status.{Status}
-use Rattle.sl_run.specs.declared.status.Status.TheVariants.{Done, Diagnosed, Usage, InputTooLarge, ReadFault, WriteFault, NoMemory}
-use Rattle.sl_run.specs.Reply.{IsReply}
-use Rattle.sl_run.specs.Status.{line_of}
+use Rattle.sl_run.specs.declared.status.Status.TheVariants.{Done, Diagnosed, Usage, InputTooLarge, TooManyModules, ModuleTooLarge, SourceFault, ReadFault, WriteFault, NoMemory}
 
--- the greatest number of bytes of a module
-abbrev pub most_bytes : ℕ
-most_bytes = 262144
+-- what each status says of the words, the roots, the input, the result and the errors
+abbrev pub Ends : Status → Option Command → SeenRoots → Seen → Seen → Seen → Type 0
+Ends status None roots input out err = (status ≡ Usage) × Reports Usage err
+Ends status (Some (One entry)) roots input out err = EndsOne status entry input out err
+Ends status (Some (Check name)) roots input out err = EndsCheck status name roots out err
 
--- what an object tells before and after a call, if it tells it, and its counts of faults
-pub record Seen : Type 0 where
-  pub before : Option (List ℕ)
-  pub now : Option (List ℕ)
-  pub faults_before : ℕ
-  pub faults_now : ℕ
+-- the command reads the input
+abbrev pub reads_input : Option Command → Bool
+reads_input None = false
+reads_input (Some (One entry)) = true
+reads_input (Some (Check name)) = false
 
--- the same of its four parts
-abbrev pub seen : Option (List ℕ) → Option (List ℕ) → ℕ → ℕ → Seen
-seen before now faults_before faults_now =
-    record { before = before; now = now; faults_before = faults_before; faults_now = faults_now }
+-- the command asks the roots
+abbrev pub asks_roots : Option Command → Bool
+asks_roots None = false
+asks_roots (Some (One entry)) = false
+asks_roots (Some (Check name)) = true
 
--- a fault of the object is shown
-abbrev pub HasFault : Seen → Type 0
-HasFault object = Rose object.faults_before object.faults_now
+-- the diagnostics of the command are written to the result's sink, and not to that of errors
+abbrev pub tells_in_out : Option Command → Bool
+tells_in_out None = false
+tells_in_out (Some (One entry)) = false
+tells_in_out (Some (Check name)) = true
 
--- this text was written to the object
-abbrev pub IsWritten : Seen → List ℕ → Type 0
-IsWritten object text = Gains object.before object.now text
+-- whether nothing was written to the result's sink at this status; the test tells whether diagnostics go there
+abbrev pub leaves_out : Bool → Status → Bool
+leaves_out told Done = false
+leaves_out true Diagnosed = false
+leaves_out false Diagnosed = true
+leaves_out told Usage = true
+leaves_out told InputTooLarge = true
+leaves_out told TooManyModules = true
+leaves_out told (ModuleTooLarge name) = true
+leaves_out told (SourceFault root name) = true
+leaves_out told ReadFault = true
+leaves_out told (WriteFault n) = false
+leaves_out told NoMemory = true
 
--- the first n bytes of the text were written, and not all, and a fault is shown
-pub record IsWrittenInPart (object : Seen) (text : List ℕ) (n : ℕ) : Type 0 where
-  pub part : n < length text
-  pub written : Gains object.before object.now (take n text)
-  pub fault : HasFault object
-
--- the status's line was written, or a first part of it where a fault is shown
-abbrev pub Reports : Status → Seen → Type 0
-Reports status err = IsWritten err (line_of status) ⊎ ((n : ℕ) × IsWrittenInPart err (line_of status) n)
-
--- The input was this text, to its end, and nothing of it is left. It has no more bytes than a module may have.
-pub record IsRead (input : Seen) (text : List ℕ) : Type 0 where
-  pub short : length text ≤ most_bytes
-  pub whole : IfSome input.before (λ left. (left ≡ text) × (input.now ≡ Some []))
-
--- The whole input is a module with the command's entry point, and its words were written.
-pub record Compiles (command : Option (List ℕ)) (input out : Seen) : Type 0 where
-  pub entry : List ℕ
-  pub text : List ℕ
-  pub bytes : List ℕ
-  pub asked : command ≡ Some entry
-  pub read : IsRead input text
-  pub replied : IsReply entry text (Code bytes)
-  pub written : IsWritten out bytes
-
--- The whole input is no such module, and the diagnostics that say why were written.
-pub record Diagnoses (command : Option (List ℕ)) (input err : Seen) : Type 0 where
-  pub entry : List ℕ
-  pub text : List ℕ
-  pub lines : List ℕ
-  pub asked : command ≡ Some entry
-  pub read : IsRead input text
-  pub replied : IsReply entry text (Diagnostics lines)
-  pub written : IsWritten err lines
-
--- as `Compiles`, but of the words only the first n bytes were written
-pub record LosesCode (command : Option (List ℕ)) (input out err : Seen) (n : ℕ) : Type 0 where
-  pub entry : List ℕ
-  pub text : List ℕ
-  pub bytes : List ℕ
-  pub asked : command ≡ Some entry
-  pub read : IsRead input text
-  pub replied : IsReply entry text (Code bytes)
-  pub lost : IsWrittenInPart out bytes n
-  pub reported : Reports (WriteFault n) err
-
--- as `Diagnoses`, but of the diagnostics only the first n bytes were written, and no line follows
-pub record LosesDiagnostics (command : Option (List ℕ)) (input out err : Seen) (n : ℕ) : Type 0 where
-  pub entry : List ℕ
-  pub text : List ℕ
-  pub lines : List ℕ
-  pub asked : command ≡ Some entry
-  pub read : IsRead input text
-  pub replied : IsReply entry text (Diagnostics lines)
-  pub lost : IsWrittenInPart err lines n
-  pub untouched : out.now ≡ out.before
-
--- what each status says of the words, the input, the result and the errors
-abbrev pub Ends : Status → Option (List ℕ) → Seen → Seen → Seen → Type 0
-Ends Done command input out err = Compiles command input out
-Ends Diagnosed command input out err = Diagnoses command input err
-Ends Usage command input out err = (command ≡ None) × Reports Usage err
-Ends InputTooLarge command input out err =
-    IsSome command × IfSome input.before (λ left. most_bytes < length left) × Reports InputTooLarge err
-Ends ReadFault command input out err = IsSome command × HasFault input × Reports ReadFault err
-Ends (WriteFault n) command input out err = LosesCode command input out err n ⊎ LosesDiagnostics command input out err n
-Ends NoMemory command input out err = IsSome command × Reports NoMemory err
-
--- at this status nothing was written to the result's sink
-abbrev pub leaves_out : Status → Bool
-leaves_out Done = false
-leaves_out Diagnosed = true
-leaves_out Usage = true
-leaves_out InputTooLarge = true
-leaves_out ReadFault = true
-leaves_out (WriteFault n) = false
-leaves_out NoMemory = true
+-- whether nothing was written to the sink of errors at this status
+abbrev pub leaves_err : Bool → Status → Bool
+leaves_err told Done = true
+leaves_err told Diagnosed = told
+leaves_err told Usage = false
+leaves_err told InputTooLarge = false
+leaves_err told TooManyModules = false
+leaves_err told (ModuleTooLarge name) = false
+leaves_err told (SourceFault root name) = false
+leaves_err told ReadFault = false
+leaves_err told (WriteFault n) = false
+leaves_err told NoMemory = false

@@ -1,26 +1,63 @@
 //! The commands.
 
-ghost use Rattle.std.specs.Prelude.{◌≡◌, ◌&&◌, map, codes};
+ghost use Rattle.std.specs.Prelude.{◌≡◌, IfOk, OnErr, IsSome, map};
 ghost use Rattle.std.specs.Option.{option_map};
-ghost use Rattle.std.specs.Str.{bytes_eq};
 ghost use Rattle.std.specs.String.{string_bytes};
-ghost use Rattle.def_slang.specs.Name.{is_name};
-ghost use Rattle.sl_run.specs.Command.{entry_of};
+ghost use Rattle.sl_run.specs.Command.{check_of, command_of, command_with};
+ghost use Rattle.sl_run.specs.Views.{command_in};
 
-use sl_base::is_name;
+use sl_base::{Name, NameRefusal, NoMemory, is_name};
+use std::alloc::Global;
 
-/// The entry point that `one ENTRY` names, where the words are this command.
-pub fn entry_of(words: &[String]) -> Option<&[u8]>
-    ensures { option_map (λ entry. entry.now) result ≡ entry_of (map string_bytes words.now) }
+/// What the program is asked to do, with the name behind the command's word.
+#[derive(Drop)]
+pub enum Command<'a> {
+    /// One entry point of the input.
+    One(&'a [u8]),
+    /// The loading of a module.
+    Check(Name),
+}
+
+/// The command that the words are, if they are one. The only error is that memory ran out for the name
+/// of one.
+pub fn command_of(alloc: Global, words: &[String]) -> Result<Option<Command<'_>>, NoMemory>
+    ensures ok { IfOk result (λ command.
+        option_map command_in command ≡ command_of (map string_bytes words.now)) }
+    ensures err { OnErr result (IsSome (command_of (map string_bytes words.now))) }
 {
     match words {
-        [command, entry] if is_one(command.as_bytes(), entry.as_bytes()) => Some(entry.as_bytes()),
-        _ => None,
+        [word, name] => command_with(alloc, word.as_bytes(), name.as_bytes()),
+        _ => Ok(None),
     }
 }
 
-fn is_one(command: &[u8], entry: &[u8]) -> bool
-    ensures { result ≡ (bytes_eq command.now (codes "one") && is_name entry.now) }
+/// The command of a word and the name behind it, if it is one.
+fn command_with<'a>(
+    alloc: Global,
+    word: &[u8],
+    name: &'a [u8],
+) -> Result<Option<Command<'a>>, NoMemory>
+    ensures ok { IfOk result (λ command.
+        option_map command_in command ≡ command_with word.now name.now) }
+    ensures err { OnErr result (IsSome (command_with word.now name.now)) }
 {
-    command == b"one".as_slice() && is_name(entry)
+    if word == b"one".as_slice() && is_name(name) {
+        Ok(Some(Command::One(name)))
+    } else if word == b"check".as_slice() {
+        check_of(alloc, name)
+    } else {
+        Ok(None)
+    }
+}
+
+/// The command to check the module of a name, if it is one.
+fn check_of<'a>(alloc: Global, name: &[u8]) -> Result<Option<Command<'a>>, NoMemory>
+    ensures ok { IfOk result (λ command. option_map command_in command ≡ check_of name.now) }
+    ensures err { OnErr result (IsSome (check_of name.now)) }
+{
+    match Name::new(alloc, name) {
+        Ok(name) => Ok(Some(Command::Check(name))),
+        Err(NameRefusal::NotAName) => Ok(None),
+        Err(NameRefusal::NoMemory) => Err(NoMemory),
+    }
 }

@@ -3,16 +3,24 @@
 
 mod alone;
 mod buffer_write;
+mod check;
 mod command;
+mod compile;
+mod diagnostics;
 pub mod laws;
 mod module;
 mod number;
-mod reply;
+mod one;
+mod reply_text;
+mod replying;
+mod request;
 mod status;
 mod token;
 
-pub use alone::{report, run_alone};
-pub use status::Status;
+pub use alone::run_alone;
+pub use status::{Status, StatusLine, report};
 
+#[cfg(test)]
+mod check_tests;
 #[cfg(test)]
 mod tests;

@@ -1,6 +1,6 @@
 use crate::{Status, run_alone};
-use sl_base::{Bytes, List};
-use sl_io::{MemorySink, MemorySource};
+use sl_base::{Bytes, List, Name};
+use sl_io::{MemorySink, MemorySource, SourceRoot};
 use std::alloc::Global;
 use std::process::Abort;
 use std::test::Fail;
@@ -51,13 +51,13 @@ const NOT_BUILT: &str = "input:1:1: error E100: form not built yet\n";
 
 /// The calls that fail, counted from 1.
 #[derive(Clone, Copy)]
-struct Faults<'a> {
-    input: &'a [u64],
-    out: &'a [u64],
-    err: &'a [u64],
+pub struct Faults<'a> {
+    pub input: &'a [u64],
+    pub out: &'a [u64],
+    pub err: &'a [u64],
 }
 
-const NO_FAULTS: Faults = Faults {
+pub const NO_FAULTS: Faults = Faults {
     input: &[],
     out: &[],
     err: &[],
@@ -65,7 +65,7 @@ const NO_FAULTS: Faults = Faults {
 
 /// How a run ended, and what was written.
 #[derive(Drop)]
-struct Ended {
+pub struct Ended {
     status: Status,
     out: MemorySink,
     err: MemorySink,
@@ -77,8 +77,20 @@ fn sink(alloc: Global, fail_at: &[u64]) -> Result<MemorySink, Fail> {
     Ok(sink)
 }
 
-/// Runs over objects in memory, which read 100 bytes a call and write 5.
+/// Runs without roots.
 fn run(alloc: Global, words: &[&str], text: &[u8], faults: Faults) -> Result<Ended, Fail> {
+    let mut roots: Vec<Box<dyn SourceRoot>> = Vec::new(alloc);
+    run_over(alloc, &mut roots, words, text, faults)
+}
+
+/// Runs over these roots and objects in memory, which read 100 bytes a call and write 5.
+pub fn run_over<R: SourceRoot>(
+    alloc: Global,
+    roots: &mut Vec<R>,
+    words: &[&str],
+    text: &[u8],
+    faults: Faults,
+) -> Result<Ended, Fail> {
     let mut owned = Vec::new(alloc);
     for word in words {
         owned.push(String::from_str(alloc, word)?)?;
@@ -87,14 +99,7 @@ fn run(alloc: Global, words: &[&str], text: &[u8], faults: Faults) -> Result<End
     let mut input = MemorySource::new(Bytes::from_slice(alloc, text)?, 100, fail_at);
     let mut out = sink(alloc, faults.out)?;
     let mut err = sink(alloc, faults.err)?;
-    let status = run_alone(
-        alloc,
-        &owned,
-        &mut Vec::new(alloc),
-        &mut input,
-        &mut out,
-        &mut err,
-    );
+    let status = run_alone(alloc, &owned, roots, &mut input, &mut out, &mut err);
     Ok(Ended { status, out, err })
 }
 
@@ -107,8 +112,8 @@ fn bytes_of(alloc: Global, words: &[u32]) -> Result<Vec<u8>, Fail> {
     Ok(bytes)
 }
 
-fn expect_ending(rt: &impl Abort, ended: &Ended, status: Status, out: &[u8], err: &str) {
-    assert_eq!(rt; ended.status, status);
+pub fn expect_ending(rt: &impl Abort, ended: &Ended, status: Status, out: &[u8], err: &str) {
+    assert_eq!(rt; &ended.status, &status);
     assert_eq!(rt; ended.out.as_slice(), out);
     assert_eq!(rt; ended.err.as_slice(), err.as_bytes());
 }
@@ -187,7 +192,7 @@ fn only_modules_of_the_form_are_built(rt: HostRuntime) -> Result<(), Fail> {
         } else {
             Status::Diagnosed
         };
-        assert_eq!(rt; ended.status, status, "{text}");
+        assert_eq!(rt; &ended.status, &status, "{text}");
         let line = if built { "" } else { NOT_BUILT };
         assert_eq!(rt; ended.err.as_slice(), line.as_bytes(), "{text}");
     }
@@ -203,7 +208,7 @@ fn an_empty_input_is_not_built(rt: HostRuntime) -> Result<(), Fail> {
 
 fn expect_usage(rt: &(impl Abort + AllocGlobal), words: &[&str]) -> Result<(), Fail> {
     let ended = run(rt.alloc(), words, FIRST.as_bytes(), NO_FAULTS)?;
-    let line = "usage: slangrun one ENTRY\n";
+    let line = "usage: slangrun one ENTRY | check MODULE\n";
     expect_ending(rt, &ended, Status::Usage, &[], line);
     Ok(())
 }
@@ -214,7 +219,10 @@ fn other_words_are_no_command(rt: HostRuntime) -> Result<(), Fail> {
     expect_usage(&rt, &["one"])?;
     expect_usage(&rt, &["one", "1a"])?;
     expect_usage(&rt, &["One", "main"])?;
-    expect_usage(&rt, &["one", "main", "main"])
+    expect_usage(&rt, &["one", "main", "main"])?;
+    expect_usage(&rt, &["check"])?;
+    expect_usage(&rt, &["check", "m.slang"])?;
+    expect_usage(&rt, &["check", "m", "m"])
 }
 
 #[test]
@@ -272,17 +280,56 @@ fn an_input_has_at_most_262144_bytes(rt: HostRuntime) -> Result<(), Fail> {
     Ok(())
 }
 
+/// A status with the name that is given.
+fn expect_line(rt: &impl Abort, status: &Status, number: u8, line: &str) {
+    assert_eq!(rt; status.number(), number);
+    assert_eq!(rt; status.line().as_slice(), line.as_bytes());
+}
+
 #[test]
-fn statuses_have_their_numbers(rt: HostRuntime) {
-    for (status, number) in [
-        (Status::Done, 0),
-        (Status::Diagnosed, 1),
-        (Status::Usage, 2),
-        (Status::InputTooLarge, 2),
-        (Status::ReadFault, 4),
-        (Status::WriteFault { written: 1 }, 5),
-        (Status::NoMemory, 6),
+fn statuses_have_their_numbers_and_lines(rt: HostRuntime) -> Result<(), Fail> {
+    let alloc = rt.alloc();
+    for (status, number, line) in [
+        (Status::Done, 0, ""),
+        (Status::Diagnosed, 1, ""),
+        (
+            Status::Usage,
+            2,
+            "usage: slangrun one ENTRY | check MODULE\n",
+        ),
+        (
+            Status::InputTooLarge,
+            2,
+            "slangrun: limit: input is too large\n",
+        ),
+        (
+            Status::TooManyModules,
+            2,
+            "slangrun: limit: more than 256 modules\n",
+        ),
+        (Status::ReadFault, 4, "slangrun: read failed\n"),
+        (
+            Status::WriteFault { written: 1 },
+            5,
+            "slangrun: write failed\n",
+        ),
+        (Status::NoMemory, 6, "slangrun: out of memory\n"),
     ] {
-        assert_eq!(rt; status.number(), number);
+        expect_line(&rt, &status, number, line);
     }
+    let name = Name::new(alloc, b"m")?;
+    let line = "slangrun: limit: module m is too large\n";
+    expect_line(&rt, &Status::ModuleTooLarge { name }, 2, line);
+    let name = Name::new(alloc, b"m")?;
+    let line = "slangrun: root 4294967295 failed on m.slang\n";
+    expect_line(
+        &rt,
+        &Status::SourceFault {
+            root: u32::MAX,
+            name,
+        },
+        3,
+        line,
+    );
+    Ok(())
 }

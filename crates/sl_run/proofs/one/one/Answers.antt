@@ -1,6 +1,6 @@
 use Rattle.std.proofs.Common.{refl}
 use Rattle.sl_run.proofs.Endings.{ends_code, ends_diagnostics}
-use Rattle.sl_run.proofs.alone.one.Goals as goal
+use Rattle.sl_run.proofs.one.one.Goals as goal
 
 pub returns-in-Ok-Code-clause-ends : goal.returns-in-Ok-Code-clause-ends
 returns-in-Ok-Code-clause-ends g c =

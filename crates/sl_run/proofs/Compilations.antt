@@ -1,4 +1,4 @@
--- A text has at most one reply.
+-- A text compiles to one thing at most.
 use Rattle.std.proofs.Common.{◌≡◌, ℕ, List, ⊎_elim, sym, ap, ◌∙◌}
 use Rattle.std.proofs.lemmas.Bool.{false≢true}
 use Rattle.std.proofs.lemmas.Slice.Eq.{bytes_eq-Decides}
@@ -7,8 +7,8 @@ use Rattle.def_slang.specs.BufferWrite.{BufferWrite, tokens_of, IsBufferWrite}
 use Rattle.def_spirv.specs.Words.{spelling}
 use Rattle.def_emit.specs.Lower.{program_of}
 use Rattle.def_emit.specs.Emit.{emitted}
-use Rattle.sl_run.specs.declared.reply.Reply.TheVariants.{Code, Diagnostics}
-use Rattle.sl_run.specs.Reply.{IsReply, IsCompiled, LacksEntry, IsNotBuilt, OneReply}
+use Rattle.sl_run.specs.declared.compile.Compilation.TheVariants.{Code, Diagnostics}
+use Rattle.sl_run.specs.Compile.{Compiles, IsCompiled, LacksEntry, IsNotBuilt, OneCompilation}
 use Rattle.sl_run.proofs.Cuts.{spelled_once}
 use Rattle.sl_run.proofs.TokenKinds.{tokens_kinds}
 use Rattle.sl_run.proofs.Found.{one_module, small_allowed}
@@ -28,19 +28,19 @@ not_other entry text a b is other =
     let same : other.source.entry ≡ entry = ap (λ (w : BufferWrite). w.entry) (one_source text other.source is.source other.read is.read) ∙ is.entry_point in
     false≢true (sym other.other ∙ (bytes_eq-Decides other.source.entry entry).1 same)
 
-not_told : (entry text a b : List ℕ) → IsReply entry text (Code a) → IsReply entry text (Diagnostics b) → ⊥
+not_told : (entry text a b : List ℕ) → Compiles entry text (Code a) → Compiles entry text (Diagnostics b) → ⊥
 not_told entry text a b is told =
     ⊎_elim (λ other. not_other entry text a b is other) (λ (none : IsNotBuilt text b). none.none is.source is.read) told
 
-same_lines : (entry text a b : List ℕ) → IsReply entry text (Diagnostics a) → IsReply entry text (Diagnostics b) → a ≡ b
+same_lines : (entry text a b : List ℕ) → Compiles entry text (Diagnostics a) → Compiles entry text (Diagnostics b) → a ≡ b
 same_lines entry text a b is other =
     ⊎_elim
     (λ (lacks : LacksEntry entry text a). ⊎_elim (λ (also : LacksEntry entry text b). lacks.told ∙ sym also.told) (λ (none : IsNotBuilt text b). absurd (none.none lacks.source lacks.read)) other)
     (λ (none : IsNotBuilt text a). ⊎_elim (λ (lacks : LacksEntry entry text b). absurd (none.none lacks.source lacks.read)) (λ (also : IsNotBuilt text b). none.told ∙ sym also.told) other)
     is
 
-pub one_reply : OneReply
-one_reply entry text (Code a) (Code b) is other = ap Code (same_bytes entry text a b is other)
-one_reply entry text (Code a) (Diagnostics b) is other = absurd (not_told entry text a b is other)
-one_reply entry text (Diagnostics a) (Code b) is other = absurd (not_told entry text b a other is)
-one_reply entry text (Diagnostics a) (Diagnostics b) is other = ap Diagnostics (same_lines entry text a b is other)
+pub one_compilation : OneCompilation
+one_compilation entry text (Code a) (Code b) is other = ap Code (same_bytes entry text a b is other)
+one_compilation entry text (Code a) (Diagnostics b) is other = absurd (not_told entry text a b is other)
+one_compilation entry text (Diagnostics a) (Code b) is other = absurd (not_told entry text b a other is)
+one_compilation entry text (Diagnostics a) (Diagnostics b) is other = ap Diagnostics (same_lines entry text a b is other)

@@ -2,7 +2,7 @@ use Rattle.std.proofs.Common.{◌≡◌, ℕ, List, subst}
 use Rattle.std.specs.Prelude.{IfOk}
 use Rattle.def_spirv.specs.Words.{Module, spelling}
 use Rattle.sl_run.proofs.Names.{free_name_short}
-use Rattle.sl_run.proofs.reply.compiled.Goals as goal
+use Rattle.sl_run.proofs.compile.code_of.Goals as goal
 
 pub module-requires-clause-buffer : goal.module-requires-clause-buffer
 module-requires-clause-buffer c = free_name_short c.args.write.now.buffer.now c.requires.buffer

@@ -1,0 +1,1 @@
+// A module without tokens: `slangrun check empty` loads it from this folder.
