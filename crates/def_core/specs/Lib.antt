@@ -1,0 +1,5 @@
+pub mod State
+pub mod Needs
+pub mod Replay
+pub mod Legal
+pub mod Laws
