@@ -1,6 +1,6 @@
 //! A cycle of keys.
 
-ghost use Rattle.std.specs.Prelude.{◌≡◌, ◌≢◌, []};
+ghost use Rattle.std.specs.Prelude.{◌≡◌, ◌≢◌, ◌<◌, ◌++◌, [], length, take, drop};
 
 use std::marker::Model;
 
@@ -35,5 +35,13 @@ impl<K: Drop> Cycle<K> {
         ensures some { self.now ≢ [] }
     {
         self.keys.as_slice()
+    }
+
+    /// Begins the cycle at the key of this place, which counts from 0. It takes no memory.
+    pub fn rotate_left(&mut self, at: usize)
+        requires { at < length self.old }
+        ensures { self.new ≡ drop at self.old ++ take at self.old }
+    {
+        self.keys.as_mut_slice().rotate_left(at);
     }
 }

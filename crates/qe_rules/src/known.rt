@@ -70,6 +70,16 @@ impl<K: Ord + Drop, A: Drop> Known<K, A> {
         Ok(())
     }
 
+    /// Makes room for so many pairs. After `NoMemory` there is as much room as before.
+    pub fn reserve_for(&mut self, count: usize) -> Result<(), NoMemory>
+        ensures pairs { self.new.pairs ≡ self.old.pairs }
+        ensures room { OnOk result (count ≤ self.new.spare) }
+        ensures err { OnErr result (self.new.spare ≡ self.old.spare) }
+    {
+        self.pairs.reserve(count)?;
+        Ok(())
+    }
+
     /// Adds a pair whose key the map lacks. After `NoMemory` the pair is dropped.
     pub fn put(&mut self, key: K, answer: A) -> Result<(), NoMemory>
         requires { get K.cmp self.old.pairs key ≡ None }
@@ -77,6 +87,7 @@ impl<K: Ord + Drop, A: Drop> Known<K, A> {
             (IsSameMap K.cmp self.new.pairs ((key, answer) ∷ self.old.pairs)) }
         ensures one { OnOk result (length self.new.pairs ≡ length self.old.pairs + 1) }
         ensures err { OnErr result (self.new.pairs ≡ self.old.pairs) }
+        ensures room { OnOk result (self.old.spare ≤ self.new.spare + 1) }
         ensures succeeds { 0 < self.old.spare → IsOk result }
     {
         match self.search(&key) {
