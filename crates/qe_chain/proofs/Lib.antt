@@ -1,0 +1,4 @@
+pub mod Kept
+pub mod Places
+pub mod Following
+pub mod Rotating

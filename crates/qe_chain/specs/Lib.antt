@@ -1,0 +1,3 @@
+pub use Rattle.def_core.specs.State
+pub use Rattle.def_core.specs.Needs
+pub mod Chains
