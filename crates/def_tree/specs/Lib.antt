@@ -1,0 +1,12 @@
+pub mod Expressions
+pub mod ExprTree
+pub mod Fault
+pub mod Laws
+pub mod Limits
+pub mod Operator
+pub mod Part
+pub mod Statements
+pub mod StmtTree
+pub mod Symbol
+pub mod TypeTree
+pub mod Types

@@ -1,0 +1,6 @@
+//! What the syntax trees of token lists are: the grammar, its limits, and what is told where there is no tree.
+//!
+//! This crate holds definitions (`specs/`) and laws about them.
+#![tactic(auto)]
+
+pub mod laws;
