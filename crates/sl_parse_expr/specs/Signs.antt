@@ -1,0 +1,22 @@
+-- Tests of tokens by their kinds and texts.
+use Rattle.std.specs.Prelude.{ℕ, Bool, false, List}
+use Rattle.std.specs.Str.{bytes_eq}
+use Rattle.def_tree.specs.Symbol.{Symbol, Name, Number, Text, End, Sign}
+use Rattle.sl_parse_expr.specs.TypeReading as reading
+use Rattle.sl_parse_expr.specs.declared.signs.Lead.{Lead}
+use Rattle.sl_parse_expr.specs.declared.signs.Lead.TheVariants as lead
+use Rattle.sl_tree.specs.View.{word_of}
+
+-- the symbol is a sign of this text
+abbrev pub is_text : List ℕ → Symbol → Bool
+is_text sign Name = false
+is_text sign Number = false
+is_text sign Text = false
+is_text sign End = false
+is_text sign (Sign text) = bytes_eq text sign
+
+-- what begins a type, as the functions on lists have it
+abbrev pub lead_in : Lead → reading.Lead
+lead_in (lead.Word word) = reading.AWord (word_of word)
+lead_in lead.Name = reading.AName
+lead_in lead.Neither = reading.NoType
