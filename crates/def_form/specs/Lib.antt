@@ -1,0 +1,4 @@
+pub mod Form
+pub mod Lexed
+pub mod Parsed
+pub mod Laws
