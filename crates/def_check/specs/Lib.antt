@@ -1,0 +1,8 @@
+pub mod Values
+pub mod Parts
+pub mod Evaluate
+pub mod Syntax
+pub mod Body
+pub mod Roots
+pub mod Reply
+pub mod Laws
