@@ -1,0 +1,4 @@
+-- What functions inside promise each other.
+pub mod Early
+pub mod Reading
+pub mod Stack

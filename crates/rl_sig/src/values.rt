@@ -1,0 +1,114 @@
+//! Types, values, and how values are converted and combined.
+
+ghost use Rattle.std.specs.Prelude.{◌≡◌, ℤ};
+ghost use Rattle.def_check.specs.Values.{converted, int_result, misfit_of, result_of};
+ghost use Rattle.def_check.specs.Values.{text_of, type_of, uint_result, width};
+ghost use Rattle.std.specs.Int.{cast_signed};
+ghost use Rattle.sl_key.specs.declared.value.Value.TheVariants.{Int};
+ghost use Rattle.def_form.specs.Form.{mark_of};
+
+use sl_decl::Operator;
+use sl_key::{Ty, Value};
+
+/// How a type is told.
+pub fn text_of(ty: Ty) -> &'static str
+    ensures { result.now ≡ text_of ty }
+{
+    match ty {
+        Ty::Bool => "bool",
+        Ty::Int => "int",
+        Ty::Uint => "uint",
+    }
+}
+
+/// The mark of an operator.
+pub fn mark_of(operator: Operator) -> &'static str
+    ensures { result.now ≡ mark_of operator }
+{
+    match operator {
+        Operator::Add => "+",
+        Operator::Subtract => "-",
+        Operator::Multiply => "*",
+    }
+}
+
+/// The type of a value.
+pub fn type_of(value: Value) -> Ty
+    ensures { result ≡ type_of value }
+{
+    match value {
+        Value::Bool(_) => Ty::Bool,
+        Value::Int(_) => Ty::Int,
+        Value::Uint(_) => Ty::Uint,
+    }
+}
+
+/// The value of a number that is written.
+pub fn number_of(number: u32) -> Value
+    ensures { result ≡ Int (cast_signed width number) }
+{
+    Value::Int(number.cast_signed())
+}
+
+/// A value as one of a type, if it can be converted.
+pub fn converted(ty: Ty, value: Value) -> Option<Value>
+    ensures { result ≡ converted ty value }
+{
+    match (ty, value) {
+        (Ty::Bool, Value::Bool(truth)) => Some(Value::Bool(truth)),
+        (Ty::Int, Value::Int(number)) => Some(Value::Int(number)),
+        (Ty::Int, Value::Uint(number)) => Some(Value::Int(number.cast_signed())),
+        (Ty::Uint, Value::Int(number)) => Some(Value::Uint(number.cast_unsigned())),
+        (Ty::Uint, Value::Uint(number)) => Some(Value::Uint(number)),
+        _ => None,
+    }
+}
+
+/// An operator on two values, if it takes them.
+pub fn result_of(operator: Operator, left: Value, right: Value) -> Option<Value>
+    ensures { result ≡ result_of operator left right }
+{
+    match (left, right) {
+        (Value::Int(x), Value::Int(y)) => Some(Value::Int(int_result(operator, x, y))),
+        (Value::Int(x), Value::Uint(y)) => {
+            Some(Value::Uint(uint_result(operator, x.cast_unsigned(), y)))
+        }
+        (Value::Uint(x), Value::Int(y)) => {
+            Some(Value::Uint(uint_result(operator, x, y.cast_unsigned())))
+        }
+        (Value::Uint(x), Value::Uint(y)) => Some(Value::Uint(uint_result(operator, x, y))),
+        _ => None,
+    }
+}
+
+// An operator on ints.
+fn int_result(operator: Operator, x: i32, y: i32) -> i32
+    ensures { result ≡ int_result width operator x y }
+{
+    match operator {
+        Operator::Add => x.wrapping_add(y),
+        Operator::Subtract => x.wrapping_sub(y),
+        Operator::Multiply => x.wrapping_mul(y),
+    }
+}
+
+// An operator on uints.
+fn uint_result(operator: Operator, x: u32, y: u32) -> u32
+    ensures { result ≡ uint_result width operator x y }
+{
+    match operator {
+        Operator::Add => x.wrapping_add(y),
+        Operator::Subtract => x.wrapping_sub(y),
+        Operator::Multiply => x.wrapping_mul(y),
+    }
+}
+
+/// The type of the first operand that is no integer.
+pub fn misfit_of(left: Value, right: Value) -> Ty
+    ensures { result ≡ misfit_of left right }
+{
+    match left {
+        Value::Bool(_) => Ty::Bool,
+        Value::Int(_) | Value::Uint(_) => type_of(right),
+    }
+}
