@@ -1,0 +1,4 @@
+-- What functions inside promise each other.
+pub mod Tokens
+pub mod Stacks
+pub mod Parts
