@@ -2,6 +2,7 @@
 //! the adapters at the edge.
 #![tactic(auto)]
 
+mod gate;
 mod memory_sink;
 mod memory_source;
 mod plain;
@@ -13,6 +14,7 @@ mod source;
 mod standard;
 mod write;
 
+pub use gate::{Gate, OpenGate};
 pub use memory_sink::MemorySink;
 pub use memory_source::MemorySource;
 pub use plain::{PlainSink, PlainSource};
