@@ -3,6 +3,7 @@
 ghost use Rattle.std.specs.Prelude.{◌≡◌, ◌+◌, ◌++◌, [], ◌∷◌, List, length, IsTrue, IsErr, IfOk, OnOk, OnErr, false};
 ghost use Rattle.def_query.specs.Answer.{Answers};
 ghost use Rattle.qe_rules.specs.Asker.{HasClosure, LiesWithin};
+ghost use Rattle.qe_rules.specs.Known.{HasRisingKeys};
 
 use crate::asker::Asker;
 use crate::known::Known;
@@ -49,9 +50,10 @@ impl<'a, R: Rules> AloneAsker<'a, R> {
         }
     }
 
-    /// How many keys it worked out.
+    /// How many keys it worked out, each once.
     pub fn worked(&self) -> usize
-        ensures { result ≡ length self.now.pairs }
+        ensures count { result ≡ length self.now.pairs }
+        ensures distinct { HasRisingKeys R.Key.cmp self.now.pairs }
     {
         self.known.len()
     }

@@ -56,7 +56,8 @@ impl<K: Ord + Drop, A: Drop> Known<K, A> {
 
     /// How many pairs there are.
     pub fn len(&self) -> usize
-        ensures { result ≡ length self.now.pairs }
+        ensures count { result ≡ length self.now.pairs }
+        ensures distinct { HasRisingKeys K.cmp self.now.pairs }
     {
         self.pairs.len()
     }

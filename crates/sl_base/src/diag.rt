@@ -58,6 +58,16 @@ impl Diag {
         Ok(text)
     }
 
+    /// What the code and its arguments say, as `cannot convert bool to int`. The only error is that
+    /// memory ran out.
+    pub fn message(&self, alloc: Global) -> Result<Bytes, NoMemory>
+        ensures { IfOk result (λ text. text ≡ message self.now.code self.now.args) }
+    {
+        let mut text = Bytes::new(alloc);
+        self.push_message(&mut text)?;
+        Ok(text)
+    }
+
     /// Puts what the code and its arguments say at the end.
     fn push_message(&self, text: &mut Bytes) -> Result<(), NoMemory>
         ensures { OnOk result (text.new ≡ text.old ++ message self.now.code self.now.args) }

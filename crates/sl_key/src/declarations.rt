@@ -145,8 +145,8 @@ fn name_of(declaration: &Declaration) -> &Name
     }
 }
 
-// The place of a declaration's name.
-fn place_of(declaration: &Declaration) -> Place
+/// The place of a declaration's name.
+pub fn place_of(declaration: &Declaration) -> Place
     ensures { result ≡ place_of declaration.now }
 {
     match declaration {

@@ -11,7 +11,7 @@ mod shared;
 mod value;
 
 pub use answer::{Answer, Facts, Good, copy_diag};
-pub use declarations::{Declarations, TableRefusal};
+pub use declarations::{Declarations, TableRefusal, place_of};
 pub use flow::Flow;
 pub use key::Key;
 pub use path::{DeclPath, Part};
