@@ -152,7 +152,7 @@ same_replies all (Failed xs) (Failed ys) h k =
     same_lines xs ys h.1.rising k.1.rising (matched all xs ys h.1 k.1) (matched all ys xs k.1 h.1)
 
 -- two functions that tell the answer of each key are the same
-same_answers : (sources : Sources) (f g : Key → Answer) → TellsAnswers sources f → TellsAnswers sources g → f ≡ g
+pub same_answers : (sources : Sources) (f g : Key → Answer) → TellsAnswers sources f → TellsAnswers sources g → f ≡ g
 same_answers sources f g h k =
     λ i key. one_answer key_cmp key_total (meaning_of sources) (bodies_lawful sources) key (f key) (g key) (h key) (k key) i
 

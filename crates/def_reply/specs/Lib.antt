@@ -1,4 +1,3 @@
 pub mod Laws
-pub mod Replies
-pub mod Request
 pub mod Text
+pub mod Worked

@@ -4,7 +4,11 @@ use Rattle.std.specs.Fmt.{decimal}
 use Rattle.std.specs.List.{enumerate_from, flat_map}
 use Rattle.sl_base.specs.declared.diag.Diag.{Diag}
 use Rattle.sl_base.specs.Diag.{diagnostic_text}
-use Rattle.def_reply.specs.Request.{Request, word_of, Reply, Made, Failed}
+use Rattle.sl_key.specs.declared.request.Reply.{Reply}
+use Rattle.sl_key.specs.declared.request.Reply.TheVariants.{Made, Failed}
+use Rattle.sl_key.specs.declared.request.Request.{Request}
+use Rattle.sl_key.specs.declared.request.Request.TheVariants.{Make}
+use Rattle.sl_key.specs.declared.request.Term.TheVariants.{Load}
 
 -- a text as a line
 abbrev pub line : List ℕ → List ℕ
@@ -13,6 +17,10 @@ line text = text ++ 10 ∷ []
 -- a diagnostic as a line
 abbrev pub diagnostic_line : Diag → List ℕ
 diagnostic_line diagnostic = line (diagnostic_text diagnostic)
+
+-- the word that a request is written with
+abbrev pub word_of : Request → List ℕ
+word_of (Make (Load name)) = codes "load"
 
 -- how a reply's first line ends
 abbrev pub outcome : Reply → List ℕ
@@ -47,3 +55,7 @@ callers_text callers =
 -- many queries were worked out.
 abbrev pub out_text : List (List (Request × Reply)) → ℕ → List ℕ
 out_text callers worked = callers_text callers ++ line (codes "worked " ++ decimal worked)
+
+-- the text of one caller's one request
+abbrev pub only_text : Request → Reply → ℕ → List ℕ
+only_text request reply worked = out_text (((request, reply) ∷ []) ∷ []) worked

@@ -1,8 +1,8 @@
 //! Laws of the definitions.
 
-ghost use Rattle.def_reply.specs.Laws.{OneReply};
+ghost use Rattle.def_reply.specs.Laws.{OneText};
 
-/// A request has one reply to sources at most, and one number of queries that were worked out.
-pub fn one_reply()
-    ensures { OneReply }
+/// A request that is worked out alone has one text, over any sources.
+pub fn one_text()
+    ensures { OneText }
 {}

@@ -1,4 +1,4 @@
-//! What requests reply to sources, and the text that tells replies.
+//! The text that tells replies.
 //!
 //! This crate holds definitions (`specs/`), and in `laws` what follows from them.
 #![tactic(auto)]
