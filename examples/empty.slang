@@ -1,1 +1,1 @@
-// A module without tokens: `slangrun check empty` loads it from this folder.
+// A module without tokens. In this folder: ../slangrun check empty

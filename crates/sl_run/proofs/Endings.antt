@@ -2,7 +2,8 @@
 use Rattle.std.proofs.Common.{◌≡◌, ℕ, ◌≤◌, List, [], ◌∷◌, ◌++◌, inl, inr, sym, ap, subst, ◌∙◌, append-nil}
 use Rattle.std.proofs.lemmas.Bool.{false≢true}
 use Rattle.std.specs.Prelude.{◌≢◌, Bool, true, false, Option, Some, None, IfSome, Result, Ok, Err, IfOk, IfErr, MatchResult, length}
-use Rattle.def_reply.specs.Request.{Made, Failed}
+use Rattle.sl_key.specs.declared.request.Reply.{Reply}
+use Rattle.sl_key.specs.declared.request.Reply.TheVariants.{Made, Failed}
 use Rattle.sl_io.specs.Source.{Gives}
 use Rattle.def_sources.specs.Limits.{most_bytes}
 use Rattle.def_sources.specs.Loaded.{Loaded, WellFormed}
@@ -15,10 +16,10 @@ use Rattle.sl_roots.specs.declared.source_set.SourceSet.{SourceSet}
 use Rattle.sl_run.specs.declared.compile.Compilation.TheVariants.{Code, Diagnostics}
 use Rattle.sl_run.specs.declared.status.Status.{Status}
 use Rattle.sl_run.specs.declared.status.Status.TheVariants.{Done, Diagnosed, Usage, InputTooLarge, TooManyModules, ModuleTooLarge, SourceFault, ReadFault, WriteFault, NoMemory}
-use Rattle.sl_run.specs.Check.{EndsCheck, IsLoaded, IsRefused}
-use Rattle.sl_run.specs.Ending.{Answers, EndsCode, EndsDiagnostics, EndsText, IsCheckedTo, Tells}
+use Rattle.sl_run.specs.Check.{EndsCheck, IsChecked, IsLoaded, IsRefused}
+use Rattle.sl_run.specs.Ending.{Answers, EndsCode, EndsDiagnostics, EndsText, IsCheckedTo, Tells, TellsReply}
 use Rattle.sl_run.specs.One.{EndsOne}
-use Rattle.sl_run.specs.Seen.{Seen, SeenRoots, seen, seen_roots, IsRead}
+use Rattle.sl_run.specs.Seen.{Seen, SeenRoots, Counted, seen, seen_roots, IsRead}
 
 whole_of : (before now : Option (List ℕ)) (text : List ℕ) → Gives before now text → IfSome now (λ rest. rest ≡ []) → IfSome before (λ left. (left ≡ text) × (now ≡ Some []))
 whole_of None now text gives end = tt
@@ -70,27 +71,33 @@ ends_diagnostics (WriteFault n) entry lines input out err a untouched ends = inr
 })
 ends_diagnostics NoMemory entry lines input out err a untouched ends = absurd ends
 
-pub ends_text : (status : Status) (made : Bool) (name text : List ℕ) (roots : SeenRoots) (out err : Seen) → IsCheckedTo made name roots text → EndsText status made out err text → EndsCheck status name roots out err
-ends_text Done true name text roots out err is ends = (text, is, ends.1)
-ends_text Done false name text roots out err is ends = absurd (false≢true ends.0)
-ends_text Diagnosed true name text roots out err is ends = absurd (false≢true (sym ends.0))
-ends_text Diagnosed false name text roots out err is ends = (is.0, text, is.1, ends.1)
-ends_text Usage made name text roots out err is ends = absurd ends
-ends_text InputTooLarge made name text roots out err is ends = absurd ends
-ends_text TooManyModules made name text roots out err is ends = absurd ends
-ends_text (ModuleTooLarge told) made name text roots out err is ends = absurd ends
-ends_text (SourceFault root told) made name text roots out err is ends = absurd ends
-ends_text ReadFault made name text roots out err is ends = absurd ends
-ends_text (WriteFault n) true name text roots out err is ends = (Made, text, is, ends.0, ends.1)
-ends_text (WriteFault n) false name text roots out err is ends = (Failed is.0, text, is.1, ends.0, ends.1)
-ends_text NoMemory made name text roots out err is ends = absurd ends
+pub ends_text : (status : Status) (made : Bool) (name text : List ℕ) (roots : SeenRoots) (steps : Counted) (out err : Seen) → IsCheckedTo made name roots steps text
+    → EndsText status made out err text → EndsCheck status name roots steps out err
+ends_text Done true name text roots steps out err is ends = (text, is, ends.1)
+ends_text Done false name text roots steps out err is ends = absurd (false≢true ends.0)
+ends_text Diagnosed true name text roots steps out err is ends = absurd (false≢true (sym ends.0))
+ends_text Diagnosed false name text roots steps out err is ends = (is.0, text, is.1, ends.1)
+ends_text Usage made name text roots steps out err is ends = absurd ends
+ends_text InputTooLarge made name text roots steps out err is ends = absurd ends
+ends_text TooManyModules made name text roots steps out err is ends = absurd ends
+ends_text (ModuleTooLarge told) made name text roots steps out err is ends = absurd ends
+ends_text (SourceFault root told) made name text roots steps out err is ends = absurd ends
+ends_text ReadFault made name text roots steps out err is ends = absurd ends
+ends_text (WriteFault n) true name text roots steps out err is ends = (Made, text, is, ends.0, ends.1)
+ends_text (WriteFault n) false name text roots steps out err is ends = (Failed is.0, text, is.1, ends.0, ends.1)
+ends_text NoMemory made name text roots steps out err is ends = absurd ends
+
+checked_reply : (name text : List ℕ) (sources : Sources) (roots : SeenRoots) (steps : Counted) (reply : Reply) → IsLoaded (name ∷ []) sources roots
+    → TellsReply sources name text steps reply → IsChecked name roots steps reply text
+checked_reply name text sources roots steps reply loaded tells =
+    record { sources = sources; loaded = loaded; keys = tells.keys; worked = tells.worked; told = tells.told; rose = tells.rose }
 
 -- a reply of loaded sources is that of the module
-pub checked_to : (made : Bool) (name text : List ℕ) (sources : Sources) (roots : SeenRoots) → IsLoaded (name ∷ []) sources roots → Tells made sources name text → IsCheckedTo made name roots text
-checked_to true name text sources roots loaded tells =
-    record { sources = sources; worked = tells.0; loaded = loaded; replied = tells.1; told = tells.2 }
-checked_to false name text sources roots loaded tells =
-    (tells.0, record { sources = sources; worked = tells.1.0; loaded = loaded; replied = tells.1.1; told = tells.1.2 })
+pub checked_to : (made : Bool) (name text : List ℕ) (sources : Sources) (roots : SeenRoots) (steps : Counted) → IsLoaded (name ∷ []) sources roots
+    → Tells made sources name text steps → IsCheckedTo made name roots steps text
+checked_to true name text sources roots steps loaded tells = checked_reply name text sources roots steps Made loaded tells
+checked_to false name text sources roots steps loaded tells =
+    (tells.0, checked_reply name text sources roots steps (Failed tells.0) loaded tells.1)
 
 module _ (names these : List (List ℕ)) (same : names ≡ these) (before now : List RootState) where
   -- what loading promises of the sources, where the names are these

@@ -4,7 +4,6 @@ pub mod Emitted
 pub mod Endings
 pub mod Found
 pub mod Lines
-pub mod Loading
 pub mod Names
 pub mod Numbered
 pub mod Numbers

@@ -5,7 +5,8 @@ use Rattle.def_slang.specs.BufferWrite.{BufferWrite, IsBufferWrite}
 use Rattle.def_spirv.specs.Words.{spelling}
 use Rattle.def_emit.specs.Lower.{program_of}
 use Rattle.def_emit.specs.Emit.{emitted}
-use Rattle.def_reply.specs.Replies.{not_built}
+use Rattle.def_check.specs.Parts.{diagnostic}
+use Rattle.def_check.specs.Syntax.{first_place}
 use Rattle.def_reply.specs.Text.{diagnostic_line}
 use Rattle.sl_base.specs.declared.diag.Diag.{Diag}
 use Rattle.sl_base.specs.declared.diag.Site.TheVariants.{Request}
@@ -15,6 +16,10 @@ use Rattle.sl_run.specs.declared.compile.Compilation.TheVariants.{Code, Diagnost
 -- the name of the one module
 abbrev pub input_name : List ℕ
 input_name = codes "input"
+
+-- the module has a form that is not built
+abbrev pub not_built : Diag
+not_built = diagnostic input_name first_place 100 []
 
 -- the module has no entry point of this name
 abbrev pub no_entry_point : List ℕ → Diag
@@ -37,7 +42,7 @@ pub record LacksEntry (entry text lines : List ℕ) : Type 0 where
 -- The text is no such module, and this line says so.
 pub record IsNotBuilt (text lines : List ℕ) : Type 0 where
   pub none : (w : BufferWrite) → IsBufferWrite text w → ⊥
-  pub told : lines ≡ diagnostic_line (not_built input_name)
+  pub told : lines ≡ diagnostic_line not_built
 
 -- what a text compiles to
 abbrev pub Compiles : List ℕ → List ℕ → Compilation → Type 0

@@ -1,18 +1,20 @@
 -- What the steps of a command say of the status that they end with.
-use Rattle.std.specs.Prelude.{◌≡◌, ℕ, ◌<◌, Bool, true, false, List, [], ◌∷◌, IfSome, IsTrue, length}
-use Rattle.def_reply.specs.Replies.{Replies}
-use Rattle.def_reply.specs.Request.{Load, Reply, Made, Failed}
-use Rattle.def_reply.specs.Text.{out_text}
+use Rattle.std.specs.Prelude.{◌≡◌, ℕ, ◌+◌, ◌<◌, Bool, true, false, List, IfSome, IsTrue, length}
+use Rattle.def_reply.specs.Text.{only_text}
+use Rattle.def_reply.specs.Worked.{IsWorked}
 use Rattle.def_sources.specs.Limits.{most_bytes}
 use Rattle.def_sources.specs.Sources.{Sources}
 use Rattle.sl_base.specs.declared.diag.Diag.{Diag}
 use Rattle.sl_io.specs.declared.read.ReadRefusal.{ReadRefusal}
 use Rattle.sl_io.specs.declared.read.ReadRefusal.TheVariants as refusal
+use Rattle.sl_key.specs.declared.key.Key.{Key}
+use Rattle.sl_key.specs.declared.request.Reply.{Reply}
+use Rattle.sl_key.specs.declared.request.Reply.TheVariants.{Made, Failed}
 use Rattle.sl_roots.specs.declared.refusal.LoadRefusal.{LoadRefusal}
 use Rattle.sl_roots.specs.declared.refusal.LoadRefusal.TheVariants as reason
-use Rattle.sl_run.specs.Check.{IsChecked}
+use Rattle.sl_run.specs.Check.{IsChecked, load_of}
 use Rattle.sl_run.specs.Compile.{Compiles}
-use Rattle.sl_run.specs.Seen.{Seen, SeenRoots, HasFault, IsRead, IsWritten, IsWrittenInPart, Reports}
+use Rattle.sl_run.specs.Seen.{Seen, SeenRoots, Counted, HasFault, IsRead, IsWritten, IsWrittenInPart, Reports}
 use Rattle.sl_run.specs.declared.compile.Compilation.{Compilation}
 use Rattle.sl_run.specs.declared.status.Status.{Status}
 use Rattle.sl_run.specs.declared.status.Status.TheVariants.{Done, Diagnosed, Usage, InputTooLarge, TooManyModules, ModuleTooLarge, SourceFault, ReadFault, WriteFault, NoMemory}
@@ -86,16 +88,18 @@ abbrev pub SomeReply : Bool → (Reply → Type 0) → Type 0
 SomeReply true Holds = Holds Made
 SomeReply false Holds = (diagnostics : List Diag) × Holds (Failed diagnostics)
 
--- this is the text of a reply that sources give to one caller's one request for a module
-abbrev pub TellsReply : Sources → List ℕ → List ℕ → Reply → Type 0
-TellsReply sources name text reply =
-    (worked : ℕ) × Replies sources (Load name) reply worked
-    × (text ≡ out_text (((Load name, reply) ∷ []) ∷ []) worked)
+-- Sources give this reply to one caller's one request for a module, and this is the text that tells it. One step was
+-- counted for each key that the request comes to.
+pub record TellsReply (sources : Sources) (name text : List ℕ) (steps : Counted) (reply : Reply) : Type 0 where
+  pub keys : List Key
+  pub worked : IsWorked sources (load_of name) reply keys
+  pub told : text ≡ only_text (load_of name) reply (length keys)
+  pub rose : steps.now ≡ steps.before + length keys
 
 -- the same of a reply without diagnostics, or with some
-abbrev pub Tells : Bool → Sources → List ℕ → List ℕ → Type 0
-Tells made sources name text = SomeReply made (TellsReply sources name text)
+abbrev pub Tells : Bool → Sources → List ℕ → List ℕ → Counted → Type 0
+Tells made sources name text steps = SomeReply made (TellsReply sources name text steps)
 
 -- the module was checked, with a reply without diagnostics, or with some
-abbrev pub IsCheckedTo : Bool → List ℕ → SeenRoots → List ℕ → Type 0
-IsCheckedTo made name roots text = SomeReply made (λ reply. IsChecked name roots reply text)
+abbrev pub IsCheckedTo : Bool → List ℕ → SeenRoots → Counted → List ℕ → Type 0
+IsCheckedTo made name roots steps text = SomeReply made (λ reply. IsChecked name roots steps reply text)

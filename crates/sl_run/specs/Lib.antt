@@ -1,8 +1,8 @@
 pub use Rattle.def_emit.specs.Emit
 pub use Rattle.def_emit.specs.Lower
-pub use Rattle.def_reply.specs.Replies
-pub use Rattle.def_reply.specs.Request
+pub use Rattle.def_check.specs.Reply
 pub use Rattle.def_reply.specs.Text
+pub use Rattle.def_reply.specs.Worked
 pub use Rattle.def_slang.specs.BufferWrite
 pub use Rattle.def_sources.specs.Loaded
 pub use Rattle.def_sources.specs.Sources

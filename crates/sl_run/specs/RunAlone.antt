@@ -3,15 +3,15 @@ use Rattle.std.specs.Prelude.{◌≡◌, Bool, true, false, Option, Some, None}
 use Rattle.sl_run.specs.Command.{Command, One, Check}
 use Rattle.sl_run.specs.Check.{EndsCheck}
 use Rattle.sl_run.specs.One.{EndsOne}
-use Rattle.sl_run.specs.Seen.{Seen, SeenRoots, Reports}
+use Rattle.sl_run.specs.Seen.{Seen, SeenRoots, Counted, Reports}
 use Rattle.sl_run.specs.declared.status.Status.{Status}
 use Rattle.sl_run.specs.declared.status.Status.TheVariants.{Done, Diagnosed, Usage, InputTooLarge, TooManyModules, ModuleTooLarge, SourceFault, ReadFault, WriteFault, NoMemory}
 
--- what each status says of the words, the roots, the input, the result and the errors
-abbrev pub Ends : Status → Option Command → SeenRoots → Seen → Seen → Seen → Type 0
-Ends status None roots input out err = (status ≡ Usage) × Reports Usage err
-Ends status (Some (One entry)) roots input out err = EndsOne status entry input out err
-Ends status (Some (Check name)) roots input out err = EndsCheck status name roots out err
+-- what each status says of the words, the roots, the steps, the input, the result and the errors
+abbrev pub Ends : Status → Option Command → SeenRoots → Counted → Seen → Seen → Seen → Type 0
+Ends status None roots steps input out err = (status ≡ Usage) × Reports Usage err
+Ends status (Some (One entry)) roots steps input out err = EndsOne status entry input out err
+Ends status (Some (Check name)) roots steps input out err = EndsCheck status name roots steps out err
 
 -- the command reads the input
 abbrev pub reads_input : Option Command → Bool

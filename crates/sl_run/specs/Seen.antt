@@ -19,6 +19,19 @@ abbrev pub seen : Option (List ℕ) → Option (List ℕ) → ℕ → ℕ → Se
 seen before now faults_before faults_now =
     record { before = before; now = now; faults_before = faults_before; faults_now = faults_now }
 
+-- how many steps were counted before and after a call
+pub record Counted : Type 0 where
+  pub before : ℕ
+  pub now : ℕ
+
+-- the same of its two parts
+abbrev pub counted : ℕ → ℕ → Counted
+counted before now = record { before = before; now = now }
+
+-- no step was counted
+abbrev pub IsIdle : Counted → Type 0
+IsIdle steps = steps.now ≡ steps.before
+
 -- the roots before and after a call
 pub record SeenRoots : Type 0 where
   pub before : List RootState

@@ -3,6 +3,7 @@ use crate::tests::{Ended, Faults, NO_FAULTS, expect_ending, run_over};
 use sl_base::{Bytes, List, Name};
 use sl_roots::MemoryRoot;
 use std::alloc::Global;
+use std::process::Abort;
 use std::test::Fail;
 
 /// A root of one module, or of none, whose fetches of these numbers fail.
@@ -63,6 +64,112 @@ fn other_modules_are_not_built(rt: HostRuntime) -> Result<(), Fail> {
         expect_ending(&rt, &ended, Status::Diagnosed, told, "");
     }
     Ok(())
+}
+
+/// Checks the module `m` of this text, which is told so.
+fn expect_told(rt: &(impl Abort + AllocGlobal), text: &str, told: &str) -> Result<(), Fail> {
+    let alloc = rt.alloc();
+    let near = root_of(alloc, Some(("m", text.as_bytes())), &[])?;
+    let ended = check(alloc, "m", near, root_of(alloc, None, &[])?, &[])?;
+    let made = told.starts_with("1:1 load ok");
+    let status = if made {
+        Status::Done
+    } else {
+        Status::Diagnosed
+    };
+    expect_ending(rt, &ended, status, told.as_bytes(), "");
+    Ok(())
+}
+
+#[test]
+fn constants_and_aliases_are_checked(rt: HostRuntime) -> Result<(), Fail> {
+    for (text, told) in [
+        (
+            "typealias N = uint; // a type\nstatic const N A = (2 + 3) * B - 1;\nstatic const int B = 1;",
+            "1:1 load ok\nworked 5\n",
+        ),
+        (
+            "static const int K = true;",
+            "1:1 load failed 1\nm:1:22: error E302: cannot convert bool to int\nworked 3\n",
+        ),
+        (
+            "static const int K = true;\nstatic const int L = K;",
+            "1:1 load failed 1\nm:1:22: error E302: cannot convert bool to int\nworked 4\n",
+        ),
+        (
+            "typealias A = int;\r\ntypealias A = uint;\r\n",
+            "1:1 load failed 1\nm:2:11: error E120: A is declared twice\nworked 1\n",
+        ),
+        (
+            "static const int K = X;\n",
+            "1:1 load failed 1\nm:1:22: error E301: unknown name X\nworked 3\n",
+        ),
+        (
+            "static const int A = 1;\nstatic const A B = 2;",
+            "1:1 load failed 1\nm:2:14: error E303: A is not a type\nworked 4\n",
+        ),
+        (
+            "typealias A = int;\nstatic const int B = A;",
+            "1:1 load failed 1\nm:2:22: error E304: A is not a value\nworked 4\n",
+        ),
+        (
+            "static const int B = 1 + true;",
+            "1:1 load failed 1\nm:1:24: error E311: operator + does not take bool\nworked 3\n",
+        ),
+    ] {
+        expect_told(&rt, text, told)?;
+    }
+    Ok(())
+}
+
+#[test]
+fn cycles_are_told_once_from_their_least_key_on(rt: HostRuntime) -> Result<(), Fail> {
+    expect_told(
+        &rt,
+        "static const int A = B + 1;\nstatic const int B = A;",
+        "1:1 load failed 1\nm:1:18: error E901: circular: m.A -> m.B -> m.A\nworked 4\n",
+    )?;
+    expect_told(
+        &rt,
+        "typealias A = B;\ntypealias B = A;\ntypealias C = A;\n",
+        "1:1 load failed 1\nm:1:11: error E901: circular: m.A -> m.B -> m.A\nworked 5\n",
+    )
+}
+
+#[test]
+fn diagnostics_are_told_in_the_order_of_places(rt: HostRuntime) -> Result<(), Fail> {
+    expect_told(
+        &rt,
+        "static const int B = A;\nstatic const int C = true;\nstatic const int A = X;",
+        "1:1 load failed 2\nm:2:22: error E302: cannot convert bool to int\nm:3:22: error E301: unknown name X\nworked 5\n",
+    )
+}
+
+/// A constant whose number stands in so many brackets.
+fn nested(alloc: Global, brackets: usize) -> Result<String, Fail> {
+    let mut text = String::from_str(alloc, "static const int K = ")?;
+    for _ in 0..brackets {
+        text.push_str("(")?;
+    }
+    text.push_str("1")?;
+    for _ in 0..brackets {
+        text.push_str(")")?;
+    }
+    text.push_str(";")?;
+    Ok(text)
+}
+
+#[test]
+fn brackets_nest_64_deep(rt: HostRuntime) -> Result<(), Fail> {
+    let alloc = rt.alloc();
+    let text = nested(alloc, 64)?;
+    expect_told(&rt, text.as_str(), "1:1 load ok\nworked 3\n")?;
+    let text = nested(alloc, 65)?;
+    expect_told(
+        &rt,
+        text.as_str(),
+        "1:1 load failed 1\nm:1:1: error E100: form not built yet\nworked 1\n",
+    )
 }
 
 #[test]

@@ -5,13 +5,13 @@ ghost use Rattle.def_slang.specs.BufferWrite.{IsAllowed};
 ghost use Rattle.def_spirv.specs.Words.{spelling};
 ghost use Rattle.def_emit.specs.Emit.{emitted};
 ghost use Rattle.def_emit.specs.Lower.{program_of};
-ghost use Rattle.sl_run.specs.Compile.{input_name, no_entry_point, Compiles};
+ghost use Rattle.sl_run.specs.Compile.{input_name, no_entry_point, not_built, Compiles};
 ghost use Rattle.sl_run.specs.Reading.{write_of};
 
 use crate::buffer_write::BufferWrite;
-use crate::diagnostics::{diagnostic_line, not_built};
 use crate::module::module;
-use sl_base::{Bytes, Diag, List, Name, NameRefusal, NoMemory, Site};
+use crate::reply_text::diagnostic_line;
+use sl_base::{Bytes, Diag, List, Name, NameRefusal, NoMemory, Place, Site};
 use sp_words::encode;
 use std::alloc::Global;
 
@@ -33,7 +33,7 @@ pub fn compile(alloc: Global, entry: &[u8], text: &[u8]) -> Result<Compilation, 
             Ok(Compilation::Diagnostics(diagnostic_line(alloc, &diagnostic)?))
         }
         None => {
-            let diagnostic = not_built(alloc, &input_name(alloc)?)?;
+            let diagnostic = not_built(alloc)?;
             Ok(Compilation::Diagnostics(diagnostic_line(alloc, &diagnostic)?))
         }
     }
@@ -60,6 +60,20 @@ fn no_entry_point(alloc: Global, entry: &[u8]) -> Result<Diag, NoMemory>
         site: Site::Request,
         code: 601,
         args,
+    })
+}
+
+/// The module has a form that is not built.
+fn not_built(alloc: Global) -> Result<Diag, NoMemory>
+    ensures { IfOk result (λ diagnostic. diagnostic ≡ not_built) }
+{
+    Ok(Diag {
+        site: Site::Source {
+            module: input_name(alloc)?,
+            place: Place { line: 1, column: 1 },
+        },
+        code: 100,
+        args: List::new(alloc),
     })
 }
 

@@ -6,14 +6,11 @@ mod buffer_write;
 mod check;
 mod command;
 mod compile;
-mod diagnostics;
 pub mod laws;
 mod module;
 mod number;
 mod one;
 mod reply_text;
-mod replying;
-mod request;
 mod status;
 mod token;
 

@@ -4,12 +4,19 @@ ghost use Rattle.std.specs.Prelude.{◌≡◌, ◌++◌, IfOk, OnOk, length, map
 ghost use Rattle.std.specs.Fmt.{decimal};
 ghost use Rattle.std.specs.List.{All, flat_map};
 ghost use Rattle.def_reply.specs.Text.{caller_text, details, diagnostic_line, head_line, line, out_text, outcome, reply_text};
-ghost use Rattle.sl_run.specs.Views.{CanBeTold, HasText, answered_in, callers_in, reply_in, request_in};
+ghost use Rattle.rl_all.specs.Telling.{CanBeTold, HasText};
+ghost use Rattle.sl_run.specs.Views.{answered_in, callers_in};
 
-use crate::diagnostics::diagnostic_line;
-use crate::request::{Answered, Reply, Request};
 use sl_base::{Bytes, Diag, List, NoMemory};
+use sl_key::{Reply, Request, Term};
 use std::alloc::Global;
+
+/// A request with its reply.
+#[derive(Debug, Drop)]
+pub struct Answered {
+    pub request: Request,
+    pub reply: Reply,
+}
 
 /// The text of all replies: for each caller its requests with their replies, in order, and last how
 /// many queries were worked out. The only error is that memory ran out.
@@ -55,7 +62,7 @@ fn push_reply(
     ensures { OnOk result
         (text.new ≡ text.old ++ reply_text caller number (answered_in answered.now)) }
 {
-    let Request::Load(_) = &answered.request;
+    let Request::Make(Term::Load(_)) = &answered.request;
     let head = format!(in alloc; "{caller}:{number} load ")?;
     text.extend_from_slice(head.as_bytes())?;
     match &answered.reply {
@@ -86,4 +93,14 @@ fn push_diagnostics(alloc: Global, text: &mut Bytes, diagnostics: &[Diag]) -> Re
         text.extend_from_slice(diagnostic_line(alloc, diagnostic)?.as_slice())?;
     }
     Ok(())
+}
+
+/// A diagnostic as a line. The only error is that memory ran out.
+pub fn diagnostic_line(alloc: Global, diagnostic: &Diag) -> Result<Bytes, NoMemory>
+    requires { HasText diagnostic.now }
+    ensures { IfOk result (λ line. line ≡ diagnostic_line diagnostic.now) }
+{
+    let mut line = diagnostic.text(alloc)?;
+    line.push(b'\n')?;
+    Ok(line)
 }

@@ -1,8 +1,13 @@
+ghost use Rattle.std.specs.Prelude.{◌≡◌, ◌<◌};
+
 use crate::{Status, run_alone};
+use qe_rules::Steps;
 use sl_base::{Bytes, List, Name};
 use sl_io::{MemorySink, MemorySource, SourceRoot};
 use std::alloc::Global;
+use std::marker::Brand;
 use std::process::Abort;
+use std::sync::ledger::{Blank, Ledger};
 use std::test::Fail;
 
 /// A module that puts 1 into each element of `b`.
@@ -91,6 +96,22 @@ pub fn run_over<R: SourceRoot>(
     text: &[u8],
     faults: Faults,
 ) -> Result<Ended, Fail> {
+    run_counted::<Brand, R>(alloc, roots, words, text, faults, Blank::new(1))
+}
+
+/// The same with a counter of steps, which is made here.
+fn run_counted<L: Ledger, R: SourceRoot>(
+    alloc: Global,
+    roots: &mut Vec<R>,
+    words: &[&str],
+    text: &[u8],
+    faults: Faults,
+    blank: Blank,
+) -> Result<Ended, Fail>
+    requires name { blank.name ≡ L.name }
+    requires parts { blank.parts ≡ L.parts }
+    requires some { 0 < L.parts }
+{
     let mut owned = Vec::new(alloc);
     for word in words {
         owned.push(String::from_str(alloc, word)?)?;
@@ -99,7 +120,10 @@ pub fn run_over<R: SourceRoot>(
     let mut input = MemorySource::new(Bytes::from_slice(alloc, text)?, 100, fail_at);
     let mut out = sink(alloc, faults.out)?;
     let mut err = sink(alloc, faults.err)?;
-    let status = run_alone(alloc, &owned, roots, &mut input, &mut out, &mut err);
+    let mut steps: Steps<L> = Steps::new(blank);
+    let status = run_alone(
+        alloc, &owned, roots, &mut input, &mut out, &mut err, &mut steps,
+    );
     Ok(Ended { status, out, err })
 }
 

@@ -1,11 +1,16 @@
 //! The program: it makes the real objects and hands them to the top call.
 #![tactic(auto)]
 
-use sl_io::{StdSink, StdSource};
+ghost use Rattle.std.specs.Prelude.{◌≡◌, ◌<◌};
+
+use qe_rules::Steps;
+use sl_io::{Sink, Source, StdSink, StdSource};
 use sl_roots::DirRoot;
 use sl_run::{Status, report, run_alone};
+use std::marker::Brand;
 use std::process::ExitCode;
 use std::rt::{Env, Files};
+use std::sync::ledger::{Blank, Ledger};
 use std::{env, io};
 
 /// The folders that modules come from, of which the first one that has a module decides.
@@ -30,19 +35,41 @@ fn roots<H: Files + Clone + Drop + AllocGlobal>(rt: &H) -> io::Result<Vec<DirRoo
     Ok(roots)
 }
 
-fn main(rt: HostRuntime) -> ExitCode {
-    let mut err = StdSink::new(rt.stderr());
-    let status = match (words(&rt), roots(&rt)) {
+/// Runs the command with the objects of the process. No step is counted for anybody else.
+fn run<L: Ledger, H: Env + Files + Clone + Drop + AllocGlobal, I: Source, O: Sink, E: Sink>(
+    rt: &H,
+    input: &mut I,
+    out: &mut O,
+    err: &mut E,
+    blank: Blank,
+) -> Status
+    requires name { blank.name ≡ L.name }
+    requires parts { blank.parts ≡ L.parts }
+    requires some { 0 < L.parts }
+{
+    let mut steps: Steps<L> = Steps::new(blank);
+    match (words(rt), roots(rt)) {
         (Ok(words), Ok(mut roots)) => run_alone(
             rt.alloc(),
             &words,
             &mut roots,
-            &mut StdSource::new(rt.stdin()),
-            &mut StdSink::new(rt.stdout()),
-            &mut err,
+            input,
+            out,
+            err,
+            &mut steps,
         ),
         // Both are made in memory, and nothing else of them can fail.
-        _ => report(Status::NoMemory, &mut err),
-    };
+        _ => report(Status::NoMemory, err),
+    }
+}
+
+fn main(rt: HostRuntime) -> ExitCode {
+    let status = run::<Brand, _, _, _, _>(
+        &rt,
+        &mut StdSource::new(rt.stdin()),
+        &mut StdSink::new(rt.stdout()),
+        &mut StdSink::new(rt.stderr()),
+        Blank::new(1),
+    );
     ExitCode::from(status.number())
 }

@@ -1,5 +1,6 @@
 use Rattle.std.proofs.Common.{ℕ}
-use Rattle.def_reply.specs.Request.{Request, Reply}
+use Rattle.sl_key.specs.declared.request.Reply.{Reply}
+use Rattle.sl_key.specs.declared.request.Request.{Request}
 use Rattle.def_reply.specs.Text.{reply_text}
 use Rattle.sl_run.specs.Views.{answered_in}
 use Rattle.sl_run.proofs.Numbered.{next_text}
