@@ -1,0 +1,27 @@
+-- What the laws of this crate say.
+use Rattle.std.specs.Prelude.{◌≡◌, ◌+◌, List, length}
+use Rattle.def_token.specs.Lexical.{Token}
+use Rattle.def_tree.specs.Fault.{AtMostOne, IsDetermined}
+use Rattle.def_module.specs.DeclTree.{ModuleTree}
+use Rattle.def_module.specs.Entries.{module_entries}
+use Rattle.def_module.specs.Module.{IsModule}
+use Rattle.def_module.specs.Syntax.{Answer, IsSyntax}
+
+-- tokens are one module at most
+abbrev pub ModulesAreUnique : Type 0
+ModulesAreUnique = AtMostOne IsModule
+
+-- a module has an entry for each of its tokens
+abbrev pub EntriesCover : Type 0
+EntriesCover =
+    (tokens rest : List Token) (tree : ModuleTree)
+    → IsModule tokens tree rest → length tokens ≡ length (module_entries tree) + length rest
+
+-- tokens are one module within the limits at most, or have one fault at most, and not both
+abbrev pub FaultsAreDetermined : Type 0
+FaultsAreDetermined = (tokens : List Token) → IsDetermined IsModule module_entries tokens
+
+-- one thing is told of the tokens of a module at most
+abbrev pub SyntaxIsDetermined : Type 0
+SyntaxIsDetermined =
+    (tokens : List Token) (this other : Answer) → IsSyntax tokens this → IsSyntax tokens other → this ≡ other

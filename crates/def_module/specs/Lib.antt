@@ -1,0 +1,9 @@
+pub mod Built
+pub mod Declarations
+pub mod DeclTree
+pub mod Entries
+pub mod Laws
+pub mod Module
+pub mod Repetition
+pub mod Scopes
+pub mod Syntax
