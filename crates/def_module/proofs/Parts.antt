@@ -7,7 +7,7 @@ use Rattle.std.proofs.Math.Bool.{and-false}
 use Prim.Native.String.{String}
 use Rattle.def_token.specs.Lexical.{Token}
 use Rattle.def_tree.specs.Part.{is_name_alone, type_goes_on}
-use Rattle.def_tree.specs.Statements.{MayHaveType, without_type, with_type}
+use Rattle.def_tree.specs.Statements.{MayHaveType, without_type, with_type, of_block}
 use Rattle.def_tree.specs.StmtTree as stmt
 use Rattle.def_tree.specs.StmtTree.{StmtTree}
 use Rattle.def_tree.specs.Symbol.{Symbol, Name, Sign, symbol, is_sign, Is}
@@ -37,10 +37,16 @@ parted sign signs (token ∷ tokens) h =
     let both = or_parts (is_sign sign (symbol token)) (one_of signs (symbol token)) h in
     (or_from (is_sign sign (symbol token)) false both.0 refl, both.1)
 
+-- tokens do not begin with a sign
+pub one_sign : (sign : String) (tokens : List Token) → heads (one_of (sign ∷ [])) tokens ≡ false → heads (is_sign sign) tokens ≡ false
+one_sign sign [] h = refl
+one_sign sign (token ∷ tokens) h = (or_parts (is_sign sign (symbol token)) false h).0
+
 -- a form that is no such sign
 pub not_sign : (head : Symbol → Bool) (sign : String) (tokens : List Token) → head (Sign (codes sign)) ≡ false → IsHeaded head tokens → heads (λ s. not (is_sign sign s)) tokens ≡ true
 not_sign head sign tokens none h = rw (h.are) (ap not (other_sign head sign (symbol h.token) none h.passes))
 
+-- a form that begins with no such sign
 pub misses : (head : Symbol → Bool) (sign : String) (tokens : List Token) → head (Sign (codes sign)) ≡ false → IsHeaded head tokens → heads (is_sign sign) tokens ≡ false
 misses head sign tokens none h = rw (h.are) (other_sign head sign (symbol h.token) none h.passes)
 
@@ -266,11 +272,7 @@ arg_found tokens rest form (of_arg {name = n} {behind = next} {after = after} {m
     (behind (λ k. type_at k next) (λ found k. arg_named mode found.0 k found.1) (type, n ∷ after) _
     (type_found next (n ∷ after) type t (rw h refl))
     (mapped (λ k. maybe_at (is_sign ":") semantic_at k after) (made (arg_tree mode type n)) (semantic, rest)
-    (maybe_found IsSemantic (is_sign ":") semantic_at [] semantic_headed semantic_found after rest semantic x (colon_only rest s) (free rest))))
-  where
-  colon_only : (tokens : List Token) → heads (one_of (":" ∷ [])) tokens ≡ false → heads (is_sign ":") tokens ≡ false
-  colon_only [] h = refl
-  colon_only (token ∷ tokens) h = (or_parts (is_sign ":" (symbol token)) false h).0
+    (maybe_found IsSemantic (is_sign ":") semantic_at [] semantic_headed semantic_found after rest semantic x (one_sign ":" rest s) (free rest))))
 
 abbrev not_bracket : Symbol → Bool
 not_bracket s = not (is_sign ")" s)
@@ -314,3 +316,6 @@ pub block_found : Found IsBlock block_at []
 block_found tokens rest block p s =
     through (λ k. stmt_at k tokens) (option_and_then (λ found. block_from found.0 found.1)) (stmt.Block block.opening block.stmts, rest) (block, rest)
     (stmt_is p) refl
+
+pub block_headed : Headed IsBlock (is_sign "{")
+block_headed tokens rest block (of_block {opening = o} {tokens = next} h m) = headed_by (is_sign "{") o next (Sign (codes "{")) h refl

@@ -3,3 +3,4 @@
 //! This crate holds definitions (`specs/`) and laws about them.
 #![tactic(auto)]
 
+pub mod laws;

@@ -1,0 +1,23 @@
+//! Laws: that tokens are one module at most, and that what is told of them is determined.
+
+ghost use Rattle.def_module.specs.Laws.{ModulesAreUnique, EntriesCover, FaultsAreDetermined, SyntaxIsDetermined};
+
+/// Tokens are one module at most.
+pub fn modules_are_unique()
+    ensures { ModulesAreUnique }
+{}
+
+/// The limits of a module are told token by token.
+pub fn entries_cover()
+    ensures { EntriesCover }
+{}
+
+/// Tokens are one module within the limits, or have one fault, at most and not both.
+pub fn faults_are_determined()
+    ensures { FaultsAreDetermined }
+{}
+
+/// One thing is told of the tokens of a module at most.
+pub fn syntax_is_determined()
+    ensures { SyntaxIsDetermined }
+{}
