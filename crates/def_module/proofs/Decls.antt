@@ -8,7 +8,6 @@ use Prim.Native.String.{String}
 use Rattle.def_token.specs.Lexical.{Token}
 use Rattle.def_tree.specs.ExprTree.{ExprTree}
 use Rattle.def_tree.specs.Symbol.{Symbol, Name, Number, Text, End, Sign, symbol, is_sign, Is}
-use Rattle.def_tree.specs.Types.{IsType}
 use Rattle.def_tree.specs.TypeTree.{TypeTree}
 use Rattle.def_tree.proofs.Eventually.{Eventually, along, at_once, behind, mapped}
 use Rattle.def_tree.proofs.ExprComplete.{expr_is}
@@ -18,13 +17,13 @@ use Rattle.def_tree.proofs.StmtComplete.{semicolon_stops}
 use Rattle.def_tree.proofs.StmtReading.{made}
 use Rattle.def_tree.proofs.Symbols.{found_in}
 use Rattle.def_tree.proofs.TypeReading.{Reader, type_at}
-use Rattle.def_module.specs.Declarations.{IsImport, of_import, IsAccess, IsAlias, of_alias, IsConst, of_const, IsParams, IsBases, IsWhere, IsArgs, IsBlock, IsMember, IsItem, IsAddition, IsBody, IsStruct, of_struct, IsInterface, of_interface, IsExtension, of_extension, IsSet, of_set, IsBinding, of_binding, IsBuffer, of_buffer, IsAttr, of_shader, of_threads, IsFunction, of_function, IsDecl, decl_import, decl_alias, decl_const, decl_struct, decl_interface, decl_extension, decl_buffer, decl_function}
+use Rattle.def_module.specs.Declarations.{IsImport, of_import, IsAccess, IsAlias, of_alias, IsConst, of_const, IsParams, IsBases, IsWhere, IsMember, IsItem, IsAddition, IsStruct, of_struct, IsInterface, of_interface, IsExtension, of_extension, IsSet, of_set, IsBinding, of_binding, IsBuffer, of_buffer, IsAttr, of_shader, of_threads, IsFunction, of_function, IsDecl, decl_import, decl_alias, decl_const, decl_struct, decl_interface, decl_extension, decl_buffer, decl_function}
 use Rattle.def_module.specs.DeclTree as tree
 use Rattle.def_module.specs.DeclTree.{AccessTree, ImportTree, AliasTree, ConstTree, ParamTree, WhereTree, ArgTree, BlockTree, MemberTree, ItemTree, StructTree, InterfaceTree, ExtensionTree, BufferKind, ReadOnly, ReadWrite, buffer_text, BindingTree, BufferTree, AttrTree, FunctionTree, DeclTree, ModuleTree}
 use Rattle.def_module.specs.Module.{IsHeader, of_header, IsModule, of_module}
-use Rattle.def_module.specs.Repetition.{IsWord, of_word, MayBe, without, with_one, MayHave, AreMany, no_more, one_more}
-use Rattle.def_module.proofs.Forms.{one_of, heads, behind_one, past, passes_head, avoids, either, this_head, other_head, headed_by, maybe_at, have_at, many_at, Headed, Found, maybe_head, have_head, many_head, have_found, maybe_found, many_found}
-use Rattle.def_module.proofs.Members.{alias_at, alias_found, alias_headed, after_access, after_is, member_at, member_found, addition_found, member_head, member_headed, addition_headed, item_at, item_found, item_head, item_headed, body_at, body_found, body_headed}
+use Rattle.def_module.specs.Repetition.{of_word, without, with_one, AreMany, no_more, one_more}
+use Rattle.def_module.proofs.Forms.{heads, behind_one, past, passes_head, avoids, either, this_head, other_head, headed_by, maybe_at, have_at, many_at, Headed, Found, maybe_head, have_head, many_head, have_found, maybe_found, many_found}
+use Rattle.def_module.proofs.Members.{alias_at, alias_found, after_access, after_is, member_at, member_found, addition_found, member_head, member_headed, addition_headed, item_at, item_found, item_head, item_headed, body_at, body_found, body_headed}
 use Rattle.def_module.proofs.Parts.{free, misses, one_sign, word_at, word_headed, word_found, access_signs, access_head, access_at, access_headed, access_found, type_stops, type_found, params_at, params_headed, params_found, bases_at, bases_stops, bases_headed, bases_found, where_at, where_head, where_headed, wheres_found, args_at, args_headed, args_found, block_at, block_found, block_headed}
 
 -- imports

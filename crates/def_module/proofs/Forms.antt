@@ -7,7 +7,7 @@ use Rattle.std.specs.Option.{option_and_then, option_map}
 use Rattle.std.proofs.lemmas.Bool.{or_from, or_parts}
 use Prim.Native.String.{String}
 use Rattle.def_token.specs.Lexical.{Token}
-use Rattle.def_tree.specs.Symbol.{Symbol, Name, Number, Text, End, Sign, symbol, is_sign, Is}
+use Rattle.def_tree.specs.Symbol.{Symbol, Sign, symbol, is_sign}
 use Rattle.def_tree.proofs.Eventually.{Eventually, along, at_once, behind, later, mapped, once}
 use Rattle.def_tree.proofs.Heads.{IsHeaded, other_sign, or_left, or_right}
 use Rattle.def_tree.proofs.StmtReading.{made}

@@ -5,20 +5,20 @@ use Rattle.std.specs.List.{list_any}
 use Rattle.std.specs.Option.{option_and_then, option_map}
 use Prim.Native.String.{String}
 use Rattle.def_token.specs.Lexical.{Token}
-use Rattle.def_tree.specs.Symbol.{Symbol, Name, Sign, symbol, is_sign, Is, IsName}
+use Rattle.def_tree.specs.Symbol.{Symbol, Sign, symbol, is_sign, Is, IsName}
 use Rattle.def_tree.specs.Types.{IsType}
 use Rattle.def_tree.specs.TypeTree.{TypeTree}
 use Rattle.def_tree.proofs.Eventually.{Eventually, along, at_once, behind, mapped}
-use Rattle.def_tree.proofs.Heads.{IsHeaded, begins_type, other_sign, type_head}
+use Rattle.def_tree.proofs.Heads.{IsHeaded, begins_type, type_head}
 use Rattle.def_tree.proofs.StmtReading.{made}
 use Rattle.def_tree.proofs.Symbols.{is_name}
 use Rattle.def_tree.proofs.TypeReading.{Reader, type_at}
 use Rattle.def_module.specs.Declarations.{IsAccessWord, of_access, IsAccess, IsAlias, of_alias, IsField, of_field, IsMutating, of_mutating, IsTail, of_tail, IsHead, of_head, IsMethod, of_method, IsMember, member_field, member_method, member_alias, IsAddition, added_method, added_alias, IsItem, of_require, of_assoc, IsBody, of_body, IsArgs, of_args, IsBases}
 use Rattle.def_module.specs.DeclTree as tree
 use Rattle.def_module.specs.DeclTree.{AccessTree, AliasTree, ArgTree, BlockTree, FieldTree, TailTree, HeadTree, MethodTree, AssocTree, MemberTree, ItemTree}
-use Rattle.def_module.specs.Repetition.{IsWord, of_word, IsNamed, of_name, MayBe, without, with_one, MayHave, AreMany, AreListed, last_one, and_more}
-use Rattle.def_module.proofs.Forms.{one_of, heads, behind_one, past, passes_head, avoids, either, this_head, other_head, headed_by, maybe_at, have_at, many_at, listed_at, Headed, Found, maybe_head, have_head, listed_head, have_found, maybe_found, many_found, listed_found}
-use Rattle.def_module.proofs.Parts.{free, not_sign, misses, word_at, word_headed, word_found, named_headed, named_found, access_signs, access_head, access_at, type_stops, access_headed, access_found, type_found, bases_at, bases_stops, bases_headed, bases_found, args_at, args_headed, args_found, block_at, block_found, parted}
+use Rattle.def_module.specs.Repetition.{IsWord, of_word, IsNamed, of_name, MayBe, without, with_one, AreListed, last_one, and_more}
+use Rattle.def_module.proofs.Forms.{one_of, heads, behind_one, past, passes_head, avoids, either, this_head, other_head, headed_by, maybe_at, have_at, many_at, listed_at, Headed, Found, maybe_head, listed_head, have_found, maybe_found, many_found, listed_found}
+use Rattle.def_module.proofs.Parts.{free, not_sign, misses, word_at, word_headed, word_found, named_headed, named_found, access_signs, access_head, access_at, type_stops, access_headed, access_found, type_found, bases_at, bases_stops, bases_headed, bases_found, args_at, args_found, block_at, block_found}
 
 -- aliases
 abbrev alias_tree : Option AccessTree → Token → Token → TypeTree → AliasTree

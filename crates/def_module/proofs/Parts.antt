@@ -1,6 +1,6 @@
 -- The parts of declarations are found: words, types, type parameters, bases, conditions, parameters and blocks.
 use Rattle.std.proofs.Common.{◌≡◌, ℕ, Bool, true, false, List, [], ◌∷◌, refl, ap, ◌∙◌, codes}
-use Rattle.std.specs.Prelude.{not, ◌&&◌, Option, Some, None}
+use Rattle.std.specs.Prelude.{not, Option, Some, None}
 use Rattle.std.specs.Option.{option_and_then, option_map}
 use Rattle.std.proofs.lemmas.Bool.{or_from, or_parts}
 use Rattle.std.proofs.Math.Bool.{and-false}
@@ -10,7 +10,7 @@ use Rattle.def_tree.specs.Part.{is_name_alone, type_goes_on}
 use Rattle.def_tree.specs.Statements.{MayHaveType, without_type, with_type, of_block}
 use Rattle.def_tree.specs.StmtTree as stmt
 use Rattle.def_tree.specs.StmtTree.{StmtTree}
-use Rattle.def_tree.specs.Symbol.{Symbol, Name, Sign, symbol, is_sign, Is}
+use Rattle.def_tree.specs.Symbol.{Symbol, Name, Sign, symbol, is_sign}
 use Rattle.def_tree.specs.Types.{IsType}
 use Rattle.def_tree.specs.TypeTree.{TypeTree}
 use Rattle.def_tree.proofs.Eventually.{Eventually, along, at_once, behind, mapped, through}
@@ -21,8 +21,8 @@ use Rattle.def_tree.proofs.Symbols.{found_in, is_name}
 use Rattle.def_tree.proofs.TypeReading.{Reader, type_at, type_is, stops}
 use Rattle.def_module.specs.Declarations.{IsAccessWord, of_access, IsAccess, IsParam, of_param, IsParams, of_params, IsBases, of_bases, IsWhere, of_where, IsMode, of_mode, IsSemantic, of_semantic, IsArg, of_arg, IsArgs, of_args, IsBlock}
 use Rattle.def_module.specs.DeclTree.{AccessWord, Public, Internal, Private, access_text, AccessTree, ParamTree, WhereTree, ModeWord, In, InOut, mode_text, ModeTree, ArgTree, BlockTree}
-use Rattle.def_module.specs.Repetition.{IsWord, of_word, IsNamed, of_name, MayBe, MayHave, AreMany, AreListed}
-use Rattle.def_module.proofs.Forms.{one_of, heads, behind_one, past, avoids, either, headed_by, maybe_at, have_at, many_at, listed_at, Headed, Found, maybe_head, listed_head, have_found, maybe_found, many_found, listed_found}
+use Rattle.def_module.specs.Repetition.{IsWord, of_word, IsNamed, of_name, AreMany, AreListed}
+use Rattle.def_module.proofs.Forms.{one_of, heads, past, avoids, either, headed_by, maybe_at, have_at, many_at, listed_at, Headed, Found, maybe_head, listed_head, have_found, maybe_found, many_found, listed_found}
 
 -- nothing is among no signs
 pub free : (tokens : List Token) → heads (one_of []) tokens ≡ false

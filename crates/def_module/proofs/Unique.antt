@@ -1,5 +1,5 @@
 -- Tokens are one module at most, and one thing is told of them at most.
-use Rattle.std.proofs.Common.{◌≡◌, List, [], refl, sym, ap, ◌∙◌}
+use Rattle.std.proofs.Common.{◌≡◌, List, [], sym, ap, ◌∙◌}
 use Rattle.std.specs.Prelude.{Option, Some, None}
 use Rattle.def_token.specs.Lexical.{Fault, Token}
 use Rattle.def_tree.specs.Fault.{AtMostOne, IsDetermined}
@@ -11,7 +11,7 @@ use Rattle.def_module.specs.Entries.{module_entries}
 use Rattle.def_module.specs.Laws.{SyntaxIsDetermined}
 use Rattle.def_module.specs.Module.{IsModule}
 use Rattle.def_module.specs.Scopes.{declared_twice}
-use Rattle.def_module.specs.Syntax.{Answer, Good, Bad, IsRead, IsRefused, IsSyntax, is_good, is_refused, is_twice, is_unbuilt, twice, unbuilt}
+use Rattle.def_module.specs.Syntax.{Good, Bad, IsRead, IsRefused, is_good, is_refused, is_twice, is_unbuilt, twice, unbuilt}
 use Rattle.def_module.proofs.Decls.{module_at, module_found}
 
 -- the parts of two pairs that are one

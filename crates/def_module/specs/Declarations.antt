@@ -1,5 +1,5 @@
 -- The grammar of declarations.
-use Rattle.std.specs.Prelude.{◌≡◌, List, ◌∷◌, Option, Some, None}
+use Rattle.std.specs.Prelude.{◌≡◌, List, ◌∷◌, Option}
 use Rattle.def_token.specs.Lexical.{Token}
 use Rattle.def_tree.specs.ExprTree.{ExprTree}
 use Rattle.def_tree.specs.Expressions.{IsExpr}

@@ -9,7 +9,7 @@ use Rattle.def_token.specs.Lexical.{Token}
 use Rattle.def_tree.specs.Limits.{Entry, Nesting, all_open, in_block, in_bracket, plain, opens, word_entries, maybe_type_entries, type_entries, whole_entries, stmt_entries}
 use Rattle.def_tree.specs.StmtTree as stmt
 use Rattle.def_tree.specs.TypeTree.{TypeTree}
-use Rattle.def_module.specs.DeclTree.{AccessTree, ImportTree, AliasTree, ConstTree, ParamTree, WhereTree, ModeTree, ArgTree, BlockTree, FieldTree, TailTree, HeadTree, MethodTree, AssocTree, MemberTree, Field, Method, MemberAlias, ItemTree, Require, Assoc, StructTree, InterfaceTree, ExtensionTree, BindingTree, BufferTree, AttrTree, Shader, NumThreads, FunctionTree, DeclTree, Import, Alias, Const, Struct, Interface, Extension, Buffer, Function, ModuleTree}
+use Rattle.def_module.specs.DeclTree.{AccessTree, ImportTree, AliasTree, ConstTree, ParamTree, WhereTree, ArgTree, BlockTree, FieldTree, TailTree, HeadTree, MethodTree, MemberTree, Field, Method, MemberAlias, ItemTree, Require, Assoc, StructTree, InterfaceTree, ExtensionTree, BindingTree, BufferTree, AttrTree, Shader, NumThreads, FunctionTree, DeclTree, Import, Alias, Const, Struct, Interface, Extension, Buffer, Function, ModuleTree}
 
 -- the entry of a form that is one token
 abbrev pub one_entry : {A : Type 0} → A → List Entry

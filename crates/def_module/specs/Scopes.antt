@@ -10,7 +10,7 @@ use Rattle.std.specs.Str.{bytes_eq}
 use Rattle.def_token.specs.Lexical.{Token}
 use Rattle.def_tree.specs.StmtTree as stmt
 use Rattle.def_tree.specs.StmtTree.{Declarator, LocalTree, StartTree, StmtTree, StmtTrees, NoStmts, MoreStmts}
-use Rattle.def_module.specs.DeclTree.{ParamTree, ArgTree, BlockTree, HeadTree, MethodTree, AliasTree, AssocTree, MemberTree, Field, Method, MemberAlias, ItemTree, Require, Assoc, StructTree, InterfaceTree, ExtensionTree, BufferTree, FunctionTree, DeclTree, Import, Alias, Const, Struct, Interface, Extension, Buffer, Function, ModuleTree}
+use Rattle.def_module.specs.DeclTree.{ParamTree, ArgTree, BlockTree, MemberTree, Field, Method, MemberAlias, ItemTree, Require, Assoc, DeclTree, Import, Alias, Const, Struct, Interface, Extension, Buffer, Function, ModuleTree}
 
 -- a name that is declared, and whether it is that of a function, a method or a requirement
 pub record Declared : Type 0 where
