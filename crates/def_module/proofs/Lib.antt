@@ -1,6 +1,9 @@
 pub mod Covered
 pub mod Decls
 pub mod Forms
+pub mod Lines
 pub mod Members
 pub mod Parts
+pub mod Productions
+pub mod Tellings
 pub mod Unique
