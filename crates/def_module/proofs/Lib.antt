@@ -3,6 +3,7 @@ pub mod Decls
 pub mod Forms
 pub mod Lines
 pub mod Members
+pub mod Modules
 pub mod Parts
 pub mod Productions
 pub mod Tellings

@@ -207,8 +207,8 @@ pub after_is : (tokens rest : List Token) (access : Option AccessTree) → IsAcc
 after_is tokens rest access without h = rw h refl
 after_is tokens rest access (with_one {form = one} p) h = rw (passes_head access_head tokens (access_headed tokens rest one p)) (rest_is tokens rest one p)
   where
-  rest_is : (tokens rest : List Token) (access : AccessTree) → IsAccessWord tokens access rest → behind_one tokens ≡ rest
-  rest_is tokens rest access (of_access h) = refl
+    rest_is : (tokens rest : List Token) (access : AccessTree) → IsAccessWord tokens access rest → behind_one tokens ≡ rest
+    rest_is tokens rest access (of_access h) = refl
 
 abbrev paren_by : Bool → MemberKind
 paren_by true = AMethod

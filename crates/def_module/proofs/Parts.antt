@@ -205,8 +205,8 @@ wheres_found =
     (λ tokens rest form p. avoids where_head bases_stops tokens refl (where_headed tokens rest form p))
     where_found
   where
-  headed_true : {tokens : List Token} → IsHeaded where_head tokens → heads where_head tokens ≡ true
-  headed_true h = rw (h.are) (h.passes)
+    headed_true : {tokens : List Token} → IsHeaded where_head tokens → heads where_head tokens ≡ true
+    headed_true h = rw (h.are) (h.passes)
 
 -- parameters
 abbrev mode_words : List ModeWord

@@ -4,30 +4,35 @@ use Rattle.std.specs.Prelude.{Option, Some, None, map, true}
 use Rattle.def_token.specs.Lexical.{Token}
 use Rattle.def_tree.specs.ExprTree as expr
 use Rattle.def_tree.specs.ExprTree.{ExprTree, NoExprs}
-use Rattle.def_tree.specs.Fault.{HasFault, IsRefused}
-use Rattle.def_tree.specs.Limits.{Deep, Entry, Nesting}
+use Rattle.def_tree.specs.Fault.{IsRefused}
+use Rattle.def_tree.specs.Limits.{Deep, Nesting}
 use Rattle.def_tree.specs.Operator as operator
-use Rattle.def_tree.specs.Statements.{of_block, no_stmts}
 use Rattle.def_tree.specs.StmtTree as stmt
 use Rattle.def_tree.specs.StmtTree.{StmtTree, StmtTrees, NoStmts, MoreStmts}
 use Rattle.def_tree.specs.TypeTree.{TypeTree, Word, Named, Int, Void, NoTypes, MoreTypes}
 use Rattle.def_tree.proofs.Refusals.{refused_behind, refuted}
-use Rattle.def_module.specs.Built.{is_built, not_built}
+use Rattle.def_module.specs.Built.{not_built}
 use Rattle.def_module.specs.Declarations.{of_body, of_struct, decl_struct}
-use Rattle.def_module.specs.DeclTree.{Public, AccessTree, MemberTree, Field, Method, Require, Assoc, Shader, DeclTree, Import, Alias, Const, Struct, Interface, Extension, Function, ModuleTree}
+use Rattle.def_module.specs.DeclTree.{Public, AccessTree, MemberTree, Field, Method, Shader, DeclTree, Import, Alias, Const, Struct, Extension, Function, ModuleTree}
 use Rattle.def_module.specs.Entries.{attr_entries, decl_entries, module_entries}
 use Rattle.def_module.specs.Module.{IsModule, of_module}
 use Rattle.def_module.specs.Repetition.{without, without_any, no_more, one_more}
 use Rattle.def_module.specs.Scopes.{declared_twice}
-use Rattle.def_module.specs.Syntax.{IsSyntax, Bad, is_refused, twice}
-use Rattle.def_module.proofs.Decls.{module_at, module_found}
+use Rattle.def_module.specs.Syntax.{IsSyntax, Bad, is_refused}
+use Rattle.def_module.proofs.Modules.{module_at, module_found}
 use Rattle.def_module.proofs.Lines.{name, word, number, mark, ending, alone}
 
 -- an empty struct
 abbrev empty_struct : DeclTree
 empty_struct =
     Struct (record {
-      access = None; word = word "struct" 0; name = name "S" 7; params = []; bases = []; wheres = []; members = [];
+      access = None;
+      word = word "struct" 0;
+      name = name "S" 7;
+      params = [];
+      bases = [];
+      wheres = [];
+      members = [];
       semicolon = None;
     })
 
@@ -45,8 +50,8 @@ end_refused =
       more = mark "}" 11 ∷ ending 12 ∷ [];
       rest = [];
       part = of_module without
-        (one_more (decl_struct (of_struct without refl refl without_any without_any no_more (of_body refl no_more refl without))) no_more)
-        refl;
+          (one_more (decl_struct (of_struct without refl refl without_any without_any no_more (of_body refl no_more refl without))) no_more)
+          refl;
     })
     refl
     (λ more rest other part. refuted (λ k. module_at k (front ++ ending 10 ∷ more)) (other, rest) (module_found part) (λ k. refl))
@@ -66,7 +71,9 @@ field name = Field (record { access = None; type = int_type; names = name ∷ []
 abbrev method : Token → StmtTrees → MemberTree
 method name stmts =
     Method (record {
-      mutating = None; access = None; override = None;
+      mutating = None;
+      access = None;
+      override = None;
       tail = record { static = None; type = int_type; name = name; args = [] };
       body = record { opening = mark "{" 0; stmts = stmts };
     })
@@ -74,23 +81,38 @@ method name stmts =
 abbrev struct : Token → List MemberTree → DeclTree
 struct name members =
     Struct (record {
-      access = None; word = word "struct" 0; name = name; params = []; bases = []; wheres = []; members = members;
+      access = None;
+      word = word "struct" 0;
+      name = name;
+      params = [];
+      bases = [];
+      wheres = [];
+      members = members;
       semicolon = None;
     })
 
 abbrev extension : List MemberTree → DeclTree
 extension members =
     Extension (record {
-      access = None; word = word "extension" 0; type = alone (name "S" 1); bases = []; members = members;
+      access = None;
+      word = word "extension" 0;
+      type = alone (name "S" 1);
+      bases = [];
+      members = members;
       semicolon = None;
     })
 
 abbrev function : Token → List Token → StmtTrees → DeclTree
 function called params stmts =
     Function (record {
-      attrs = []; access = None; type = int_type; name = called; params = [];
+      attrs = [];
+      access = None;
+      type = int_type;
+      name = called;
+      params = [];
       args = map (λ (param : Token). record { mode = None; type = int_type; name = param; semantic = None }) params;
-      wheres = []; body = record { opening = mark "{" 0; stmts = stmts };
+      wheres = [];
+      body = record { opening = mark "{" 0; stmts = stmts };
     })
 
 abbrev local : Token → StmtTree
@@ -216,8 +238,14 @@ attr_brackets = refl
 -- the mark before type parameters opens nothing
 params_open_nothing : decl_entries (record { brackets = 0; blocks = 0; unary = 0; types = 63; statements = 0 })
     (Struct (record {
-      access = None; word = word "struct" 0; name = name "S" 1; params = record { name = name "T" 2; bound = Some (alone (name "I" 3)) } ∷ [];
-      bases = []; wheres = []; members = []; semicolon = None;
+      access = None;
+      word = word "struct" 0;
+      name = name "S" 1;
+      params = record { name = name "T" 2; bound = Some (alone (name "I" 3)) } ∷ [];
+      bases = [];
+      wheres = [];
+      members = [];
+      semicolon = None;
     }))
     ≡ None ∷ None ∷ None ∷ None ∷ None ∷ None ∷ None ∷ None ∷ None ∷ []
 params_open_nothing = refl

@@ -12,7 +12,7 @@ use Rattle.def_module.specs.Laws.{SyntaxIsDetermined}
 use Rattle.def_module.specs.Module.{IsModule}
 use Rattle.def_module.specs.Scopes.{declared_twice}
 use Rattle.def_module.specs.Syntax.{Good, Bad, IsRead, IsRefused, is_good, is_refused, is_twice, is_unbuilt, twice, unbuilt}
-use Rattle.def_module.proofs.Decls.{module_at, module_found}
+use Rattle.def_module.proofs.Modules.{module_at, module_found}
 
 -- the parts of two pairs that are one
 parts : {A B : Type 0} (p q : A × B) → p ≡ q → (p.0 ≡ q.0) × (p.1 ≡ q.1)
@@ -36,14 +36,14 @@ not_both tokens this fault p q = absurd ((modules_determined tokens).one [] this
 found_or_not : {A B : Type 0} (find : ModuleTree → Option A) (this other : ModuleTree) (a : A) → this ≡ other → find this ≡ None → find other ≡ Some a → B
 found_or_not find this other a same none some = absurd (none_some (sym none ∙ ap find same ∙ some))
   where
-  none_some : {A : Type 0} {a : A} → None ≡ Some a → ⊥
-  none_some h = cc
+    none_some : {A : Type 0} {a : A} → None ≡ Some a → ⊥
+    none_some h = cc
 
 one_found : {A : Type 0} (find : ModuleTree → Option A) (this other : ModuleTree) (a b : A) → this ≡ other → find this ≡ Some a → find other ≡ Some b → a ≡ b
 one_found find this other a b same h k = one_some (sym h ∙ ap find same ∙ k)
   where
-  one_some : {A : Type 0} {a b : A} → Some a ≡ Some b → a ≡ b
-  one_some h = cc
+    one_some : {A : Type 0} {a b : A} → Some a ≡ Some b → a ≡ b
+    one_some h = cc
 
 pub syntax_determined : SyntaxIsDetermined
 syntax_determined tokens this other (is_good {tree = t} p d n) (is_good {tree = u} q e m) = ap Good (one_tree tokens t u p q)

@@ -190,8 +190,14 @@ pub data IsStruct : List Token → StructTree → List Token → Type 0 where
       → MayHave IsParams second params third → MayHave IsBases third bases fourth → AreMany IsWhere fourth wheres fifth
       → IsBody IsMember fifth (members, semicolon) rest
       → IsStruct tokens (record {
-        access = access; word = word; name = name; params = params; bases = bases; wheres = wheres;
-        members = members; semicolon = semicolon;
+        access = access;
+        word = word;
+        name = name;
+        params = params;
+        bases = bases;
+        wheres = wheres;
+        members = members;
+        semicolon = semicolon;
       }) rest
 
 -- Interface = Access "interface" Name [ Bases ] "{" { Require | Assoc } "}" [ ";" ]
@@ -201,7 +207,12 @@ pub data IsInterface : List Token → InterfaceTree → List Token → Type 0 wh
       → IsAccess tokens access (word ∷ name ∷ second) → Is "interface" word → IsName name
       → MayHave IsBases second bases third → IsBody IsItem third (items, semicolon) rest
       → IsInterface tokens (record {
-        access = access; word = word; name = name; bases = bases; items = items; semicolon = semicolon;
+        access = access;
+        word = word;
+        name = name;
+        bases = bases;
+        items = items;
+        semicolon = semicolon;
       }) rest
 
 -- Extension = Access "extension" Type [ Bases ] "{" { Method | Alias } "}" [ ";" ]
@@ -211,7 +222,12 @@ pub data IsExtension : List Token → ExtensionTree → List Token → Type 0 wh
       → IsAccess tokens access (word ∷ second) → Is "extension" word → IsType second type third
       → MayHave IsBases third bases fourth → IsBody IsAddition fourth (members, semicolon) rest
       → IsExtension tokens (record {
-        access = access; word = word; type = type; bases = bases; members = members; semicolon = semicolon;
+        access = access;
+        word = word;
+        type = type;
+        bases = bases;
+        members = members;
+        semicolon = semicolon;
       }) rest
 
 -- "," Number
@@ -228,7 +244,7 @@ pub data IsBinding : List Token → BindingTree → List Token → Type 0 where
       → IsNumber number → MayBe IsSet tokens set (closing ∷ third ∷ fourth ∷ rest)
       → Is ")" closing → Is "]" third → Is "]" fourth
       → IsBinding (first ∷ second ∷ vendor ∷ colons ∷ word ∷ opening ∷ number ∷ tokens)
-        (record { opening = first; number = number; set = set }) rest
+      (record { opening = first; number = number; set = set }) rest
 
 -- Buffer = [ "[" "[" "vk" "::" "binding" "(" Number [ "," Number ] ")" "]" "]" ] Access
 --          ( "StructuredBuffer" | "RWStructuredBuffer" ) "<" Type ">" Name ";"
@@ -239,7 +255,12 @@ pub data IsBuffer : List Token → BufferTree → List Token → Type 0 where
       → Is (buffer_text kind) word → Is "<" opening → IsType third element (closing ∷ name ∷ semicolon ∷ rest)
       → Is ">" closing → IsName name → Is ";" semicolon
       → IsBuffer tokens (record {
-        binding = binding; access = access; kind = kind; word = word; element = element; name = name;
+        binding = binding;
+        access = access;
+        kind = kind;
+        word = word;
+        element = element;
+        name = name;
       }) rest
 
 -- Attr = "[" "shader" "(" String ")" "]" | "[" "numthreads" "(" Number "," Number "," Number ")" "]"
@@ -251,7 +272,7 @@ pub data IsAttr : List Token → AttrTree → List Token → Type 0 where
       → Is "[" first → Is "numthreads" word → Is "(" opening
       → IsNumber x → Is "," comma → IsNumber y → Is "," mark → IsNumber z → Is ")" closing → Is "]" last
       → IsAttr (first ∷ word ∷ opening ∷ x ∷ comma ∷ y ∷ mark ∷ z ∷ closing ∷ last ∷ rest)
-        (tree.NumThreads first word x y z) rest
+      (tree.NumThreads first word x y z) rest
 
 -- Function = { Attr } Access Type Name [ Params ] "(" [ Arg { "," Arg } ] ")" { Where } Block
 pub data IsFunction : List Token → FunctionTree → List Token → Type 0 where
@@ -262,7 +283,13 @@ pub data IsFunction : List Token → FunctionTree → List Token → Type 0 wher
       → IsName name → MayHave IsParams fourth params fifth → IsArgs fifth args sixth
       → AreMany IsWhere sixth wheres seventh → IsBlock seventh body rest
       → IsFunction tokens (record {
-        attrs = attrs; access = access; type = type; name = name; params = params; args = args; wheres = wheres;
+        attrs = attrs;
+        access = access;
+        type = type;
+        name = name;
+        params = params;
+        args = args;
+        wheres = wheres;
         body = body;
       }) rest
 
