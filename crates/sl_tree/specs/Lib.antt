@@ -1,1 +1,2 @@
+pub mod DeclView
 pub mod View

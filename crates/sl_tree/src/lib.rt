@@ -4,12 +4,22 @@
 //! not keep the source, of which these tokens are parts.
 #![tactic(auto)]
 
+mod declarations;
 mod expressions;
+mod members;
 mod operators;
 mod statements;
 mod types;
 
+pub use declarations::{
+    AttrTree, BindingTree, BufferKind, BufferTree, ConstTree, DeclTree, ExtensionTree,
+    FunctionTree, ImportTree, InterfaceTree, ModuleTree, StructTree,
+};
 pub use expressions::ExprTree;
+pub use members::{
+    AccessTree, AccessWord, AliasTree, ArgTree, AssocTree, BlockTree, FieldTree, HeadTree,
+    ItemTree, MemberTree, MethodTree, ModeTree, ModeWord, ParamTree, TailTree, WhereTree,
+};
 pub use operators::{Assignment, Operator, Step, UnaryOperator};
 pub use statements::{Binding, Declarator, InitTree, LocalTree, SimpleTree, StartTree, StmtTree};
 pub use types::{TypeTree, TypeWord};
