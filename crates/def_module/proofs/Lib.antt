@@ -4,6 +4,7 @@ pub mod Forms
 pub mod Lines
 pub mod Members
 pub mod Modules
+pub mod Names
 pub mod Parts
 pub mod Productions
 pub mod Tellings

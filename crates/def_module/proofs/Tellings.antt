@@ -17,7 +17,7 @@ use Rattle.def_module.specs.DeclTree.{Public, AccessTree, MemberTree, Field, Met
 use Rattle.def_module.specs.Entries.{attr_entries, decl_entries, module_entries}
 use Rattle.def_module.specs.Module.{IsModule, of_module}
 use Rattle.def_module.specs.Repetition.{without, without_any, no_more, one_more}
-use Rattle.def_module.specs.Scopes.{declared_twice}
+use Rattle.def_module.specs.Twice.{declared_twice}
 use Rattle.def_module.specs.Syntax.{IsSyntax, Bad, is_refused}
 use Rattle.def_module.proofs.Modules.{module_at, module_found}
 use Rattle.def_module.proofs.Lines.{name, word, number, mark, ending, alone}

@@ -10,7 +10,7 @@ use Rattle.def_module.specs.DeclTree.{ModuleTree}
 use Rattle.def_module.specs.Entries.{module_entries}
 use Rattle.def_module.specs.Laws.{SyntaxIsDetermined}
 use Rattle.def_module.specs.Module.{IsModule}
-use Rattle.def_module.specs.Scopes.{declared_twice}
+use Rattle.def_module.specs.Twice.{declared_twice}
 use Rattle.def_module.specs.Syntax.{Good, Bad, IsRead, IsRefused, is_good, is_refused, is_twice, is_unbuilt, twice, unbuilt}
 use Rattle.def_module.proofs.Modules.{module_at, module_found}
 

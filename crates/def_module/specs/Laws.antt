@@ -6,6 +6,7 @@ use Rattle.def_module.specs.DeclTree.{ModuleTree}
 use Rattle.def_module.specs.Entries.{module_entries}
 use Rattle.def_module.specs.Module.{IsModule}
 use Rattle.def_module.specs.Syntax.{Answer, IsSyntax}
+use Rattle.def_module.specs.Twice.{IsTold}
 
 -- tokens are one module at most
 abbrev pub ModulesAreUnique : Type 0
@@ -25,3 +26,7 @@ FaultsAreDetermined = (tokens : List Token) → IsDetermined IsModule module_ent
 abbrev pub SyntaxIsDetermined : Type 0
 SyntaxIsDetermined =
     (tokens : List Token) (this other : Answer) → IsSyntax tokens this → IsSyntax tokens other → this ≡ other
+
+-- which name is declared twice is told of each module
+abbrev pub NamesAreTold : Type 0
+NamesAreTold = (tree : ModuleTree) → IsTold tree

@@ -7,3 +7,4 @@ pub mod Module
 pub mod Repetition
 pub mod Scopes
 pub mod Syntax
+pub mod Twice

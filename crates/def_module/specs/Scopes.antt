@@ -1,12 +1,11 @@
--- Which name a module declares twice.
+-- The scopes of a module.
 --
 -- A scope is what two declarations of one name cannot share: type parameters, parameters, a block, the head of a `for`,
 -- each statement behind `if (..)`, `else`, `while (..)` and `for (..)`, what stands in a struct, an interface or an
 -- extension, and the module. Scopes are in the order in which they end: one that stands in another comes before it, and
 -- the module comes last.
-use Rattle.std.specs.Prelude.{Bool, true, false, not, ◌&&◌, List, [], ◌∷◌, ◌++◌, map, Option, Some, None, if◌then◌else◌}
-use Rattle.std.specs.List.{flat_map, list_any}
-use Rattle.std.specs.Str.{bytes_eq}
+use Rattle.std.specs.Prelude.{Bool, true, false, List, [], ◌∷◌, ◌++◌, map}
+use Rattle.std.specs.List.{flat_map}
 use Rattle.def_token.specs.Lexical.{Token}
 use Rattle.def_tree.specs.StmtTree as stmt
 use Rattle.def_tree.specs.StmtTree.{Declarator, LocalTree, StartTree, StmtTree, StmtTrees, NoStmts, MoreStmts}
@@ -137,27 +136,3 @@ decl_scopes (Function function) =
 -- the scopes of a module
 abbrev pub module_scopes : ModuleTree → List Scope
 module_scopes tree = flat_map decl_scopes tree.decls ++ flat_map decl_names tree.decls ∷ []
-
--- one scope cannot have both: they have one name, and are not both functions, methods or requirements
-abbrev pub clash : Declared → Declared → Bool
-clash this other = bytes_eq this.name.text other.name.text && not (this.overloads && other.overloads)
-
--- the first of these names that one before it clashes with, behind those that stand before
-abbrev pub second_behind : Scope → Scope → Option Token
-second_behind before [] = None
-second_behind before (this ∷ more) =
-    if list_any (clash this) before then Some this.name else second_behind (before ++ this ∷ []) more
-
--- the first name of a scope that one before it clashes with
-abbrev pub second_name : Scope → Option Token
-second_name scope = second_behind [] scope
-
--- the first that there is
-abbrev pub first_some : {A : Type 0} → List (Option A) → Option A
-first_some [] = None
-first_some (None ∷ more) = first_some more
-first_some (Some found ∷ more) = Some found
-
--- the name that a module declares twice, if there is one: in the first scope that has one the first
-abbrev pub declared_twice : ModuleTree → Option Token
-declared_twice tree = first_some (map second_name (module_scopes tree))

@@ -6,7 +6,7 @@ use Rattle.def_module.specs.Built.{not_built}
 use Rattle.def_module.specs.DeclTree.{ModuleTree}
 use Rattle.def_module.specs.Entries.{module_entries}
 use Rattle.def_module.specs.Module.{IsModule}
-use Rattle.def_module.specs.Scopes.{declared_twice}
+use Rattle.def_module.specs.Twice.{declared_twice}
 
 -- the tokens are a module within the limits
 abbrev pub IsRead : List Token → ModuleTree → Type 0

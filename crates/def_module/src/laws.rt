@@ -1,6 +1,6 @@
 //! Laws: that tokens are one module at most, and that what is told of them is determined.
 
-ghost use Rattle.def_module.specs.Laws.{ModulesAreUnique, EntriesCover, FaultsAreDetermined, SyntaxIsDetermined};
+ghost use Rattle.def_module.specs.Laws.{ModulesAreUnique, EntriesCover, FaultsAreDetermined, NamesAreTold, SyntaxIsDetermined};
 
 /// Tokens are one module at most.
 pub fn modules_are_unique()
@@ -15,6 +15,11 @@ pub fn entries_cover()
 /// Tokens are one module within the limits, or have one fault, at most and not both.
 pub fn faults_are_determined()
     ensures { FaultsAreDetermined }
+{}
+
+/// The name that a module declares twice is the first such name in the first scope that has one.
+pub fn names_are_told()
+    ensures { NamesAreTold }
 {}
 
 /// One thing is told of the tokens of a module at most.
