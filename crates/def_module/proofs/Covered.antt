@@ -12,9 +12,9 @@ use Rattle.def_tree.specs.Types.{IsType}
 use Rattle.def_tree.specs.TypeTree.{TypeTree}
 use Rattle.def_tree.proofs.Covered.{type_covered, expr_covered}
 use Rattle.def_tree.proofs.StmtsCovered.{stmt_covered}
-use Rattle.def_module.specs.Declarations.{IsImport, of_import, IsAccessWord, of_access, IsAccess, IsAlias, of_alias, IsConst, of_const, IsParam, of_param, IsParams, of_params, IsBases, of_bases, IsWhere, of_where, IsMode, of_mode, IsSemantic, of_semantic, IsArg, of_arg, IsArgs, of_args, IsBlock, IsField, of_field, IsMutating, of_mutating, IsTail, of_tail, IsHead, of_head, IsMethod, of_method, IsMember, member_field, member_method, member_alias, IsAddition, added_method, added_alias, IsItem, of_require, of_assoc, IsBody, of_body, IsStruct, of_struct, IsInterface, of_interface, IsExtension, of_extension, IsSet, of_set, IsBinding, of_binding, IsBuffer, of_buffer, IsAttr, of_shader, of_threads, IsFunction, of_function, IsDecl, decl_import, decl_alias, decl_const, decl_struct, decl_interface, decl_extension, decl_buffer, decl_function}
+use Rattle.def_module.specs.Declarations.{IsImport, of_import, IsAccessWord, of_access, IsAccess, IsAlias, of_alias, IsConst, of_const, IsParam, of_param, IsParams, of_params, IsBases, of_bases, IsWhere, of_where, IsMode, of_mode, IsSemantic, of_semantic, IsArg, of_arg, IsArgs, of_args, IsBlock, IsField, of_field, IsMutating, of_mutating, IsTail, of_tail, IsHead, of_head, IsMethod, of_method, IsMember, member_field, member_method, member_alias, IsAddition, added_method, added_alias, IsRequire, of_require, IsAssoc, of_assoc, IsItem, item_require, item_assoc, IsBody, of_body, IsStruct, of_struct, IsInterface, of_interface, IsExtension, of_extension, IsSet, of_set, IsBinding, of_binding, IsBuffer, of_buffer, IsAttr, of_shader, of_threads, IsFunction, of_function, IsDecl, decl_import, decl_alias, decl_const, decl_struct, decl_interface, decl_extension, decl_buffer, decl_function}
 use Rattle.def_module.specs.DeclTree.{ParamTree}
-use Rattle.def_module.specs.Entries.{one_entry, maybe_entries, more_listed_entries, listed_entries, access_entries, import_entries, alias_entries, const_entries, param_entries, params_entries, bases_entries, where_entries, semantic_entries, arg_entries, args_entries, block_entries, field_entries, mutating_entries, tail_entries, head_entries, method_entries, member_entries, item_entries, body_entries, struct_entries, interface_entries, extension_entries, set_entries, binding_entries, buffer_entries, attr_entries, function_entries, decl_entries, header_entries}
+use Rattle.def_module.specs.Entries.{one_entry, maybe_entries, more_listed_entries, listed_entries, access_entries, import_entries, alias_entries, const_entries, param_entries, params_entries, bases_entries, where_entries, semantic_entries, arg_entries, args_entries, block_entries, field_entries, mutating_entries, tail_entries, head_entries, method_entries, member_entries, require_entries, assoc_entries, item_entries, body_entries, struct_entries, interface_entries, extension_entries, set_entries, binding_entries, buffer_entries, attr_entries, function_entries, decl_entries, header_entries}
 use Rattle.def_module.specs.Laws.{EntriesCover}
 use Rattle.def_module.specs.Module.{IsHeader, of_header, of_module}
 use Rattle.def_module.specs.Repetition.{IsWord, of_word, IsNamed, of_name, MayBe, without, with_one, MayHave, without_any, with_some, AreMany, no_more, one_more, AreListed, last_one, and_more}
@@ -268,11 +268,17 @@ addition_covered : (around : Nesting) → Covers IsAddition (member_entries arou
 addition_covered around tokens rest form (added_method {method = one} p) = method_covered around tokens rest one p
 addition_covered around tokens rest form (added_alias {alias = one} p) = alias_covered around tokens rest one p
 
-item_covered : (around : Nesting) → Covers IsItem (item_entries around)
-item_covered around tokens rest form (of_require {semicolon = c} {head = head} p h) =
-    omega (arith, head_covered around tokens (c ∷ rest) head p, length-append (head_entries around head) (plain ∷ []))
-item_covered around tokens rest form (of_assoc {semicolon = c} {tokens = next} {bases = bases} h i b d) =
+require_covered : (around : Nesting) → Covers IsRequire (require_entries around)
+require_covered around tokens rest form (of_require {semicolon = c} p h) =
+    omega (arith, head_covered around tokens (c ∷ rest) form p, length-append (head_entries around form) (plain ∷ []))
+
+assoc_covered : (around : Nesting) → Covers IsAssoc (assoc_entries around)
+assoc_covered around tokens rest form (of_assoc {semicolon = c} {tokens = next} {bases = bases} h i b d) =
     omega (arith, maybe_bases_covered around next (c ∷ rest) bases b, length-append (bases_entries around bases) (plain ∷ []))
+
+item_covered : (around : Nesting) → Covers IsItem (item_entries around)
+item_covered around tokens rest form (item_require {head = one} p) = require_covered around tokens rest one p
+item_covered around tokens rest form (item_assoc {assoc = one} p) = assoc_covered around tokens rest one p
 
 body_covered : {A : Type 0} (IsForm : List Token → A → List Token → Type 0) (entries_of : Nesting → A → List Entry) → ((around : Nesting) → Covers IsForm (entries_of around)) → (around : Nesting)
     → (tokens rest : List Token) (forms : List A) (semicolon : Option Token) → IsBody IsForm tokens (forms, semicolon) rest

@@ -13,12 +13,12 @@ use Rattle.def_tree.proofs.Heads.{IsHeaded, begins_type, type_head}
 use Rattle.def_tree.proofs.StmtReading.{made}
 use Rattle.def_tree.proofs.Symbols.{is_name}
 use Rattle.def_tree.proofs.TypeReading.{Reader, type_at}
-use Rattle.def_module.specs.Declarations.{IsAccessWord, of_access, IsAccess, IsAlias, of_alias, IsField, of_field, IsMutating, of_mutating, IsTail, of_tail, IsHead, of_head, IsMethod, of_method, IsMember, member_field, member_method, member_alias, IsAddition, added_method, added_alias, IsItem, of_require, of_assoc, IsBody, of_body, IsArgs, of_args, IsBases}
+use Rattle.def_module.specs.Declarations.{IsAccessWord, of_access, IsAccess, IsAlias, of_alias, IsField, of_field, IsMutating, of_mutating, IsTail, of_tail, IsHead, of_head, IsMethod, of_method, IsMember, member_field, member_method, member_alias, IsAddition, added_method, added_alias, IsRequire, of_require, IsAssoc, of_assoc, IsItem, item_require, item_assoc, IsBody, of_body, IsArgs, of_args, IsBases}
 use Rattle.def_module.specs.DeclTree as tree
 use Rattle.def_module.specs.DeclTree.{AccessTree, AliasTree, ArgTree, BlockTree, FieldTree, TailTree, HeadTree, MethodTree, AssocTree, MemberTree, ItemTree}
 use Rattle.def_module.specs.Repetition.{IsWord, of_word, IsNamed, of_name, MayBe, without, with_one, AreListed, last_one, and_more}
 use Rattle.def_module.proofs.Forms.{one_of, heads, behind_one, past, passes_head, avoids, either, this_head, other_head, headed_by, maybe_at, have_at, many_at, listed_at, Headed, Found, maybe_head, listed_head, have_found, maybe_found, many_found, listed_found}
-use Rattle.def_module.proofs.Parts.{free, not_sign, misses, word_at, word_headed, word_found, named_headed, named_found, access_signs, access_head, access_at, type_stops, access_headed, access_found, type_found, bases_at, bases_stops, bases_headed, bases_found, args_at, args_found, block_at, block_found}
+use Rattle.def_module.proofs.Parts.{same, free, not_sign, misses, word_at, word_headed, word_found, named_headed, named_found, access_signs, access_head, access_at, type_stops, access_headed, access_found, type_found, bases_at, bases_stops, bases_headed, bases_found, args_at, args_found, block_at, block_found}
 
 -- aliases
 abbrev alias_tree : Option AccessTree → Token → Token → TypeTree → AliasTree
@@ -347,37 +347,54 @@ pub addition_headed : Headed IsAddition member_head
 addition_headed tokens rest form p = member_headed tokens rest form (added tokens rest form p)
 
 -- items of interfaces
-abbrev assoc_tree : Token → Token → List TypeTree → ItemTree
-assoc_tree word name bases = tree.Assoc (record { word = word; name = name; bases = bases })
+abbrev assoc_tree : Token → Token → List TypeTree → AssocTree
+assoc_tree word name bases = record { word = word; name = name; bases = bases }
 
-abbrev assoc_at : ℕ → Reader ItemTree
+abbrev assoc_at : ℕ → Reader AssocTree
 assoc_at k (word ∷ name ∷ tokens) = option_map (past (assoc_tree word name)) (have_at (is_sign ":") bases_at k tokens)
 assoc_at k _ = None
 
+assoc_headed : Headed IsAssoc (is_sign "associatedtype")
+assoc_headed tokens rest form (of_assoc {word = w} {name = n} {tokens = next} h i b d) = headed_by (is_sign "associatedtype") w (n ∷ next) (Sign (codes "associatedtype")) h refl
+
+assoc_found : Found IsAssoc assoc_at []
+assoc_found tokens rest form (of_assoc {word = w} {name = n} {semicolon = c} {tokens = next} {bases = bases} h i b d) s =
+    mapped (λ k. have_at (is_sign ":") bases_at k next) (past (assoc_tree w n)) (bases, c ∷ rest)
+    (have_found IsBases (is_sign ":") bases_at bases_stops bases_headed bases_found next (c ∷ rest) bases b (rw d refl) (rw d refl))
+
+abbrev require_at : ℕ → Reader HeadTree
+require_at k tokens = option_map (past same) (head_at k tokens)
+
+require_headed : Headed IsRequire head_head
+require_headed tokens rest form (of_require {semicolon = c} p h) = head_headed tokens (c ∷ rest) form p
+
+require_found : Found IsRequire require_at []
+require_found tokens rest form (of_require {semicolon = c} p h) s =
+    mapped (λ k. head_at k tokens) (past same) (form, c ∷ rest) (head_found tokens (c ∷ rest) form p (free (c ∷ rest)))
+
 abbrev item_by : Bool → ℕ → Reader ItemTree
-item_by true k tokens = assoc_at k tokens
-item_by false k tokens = option_map (past tree.Require) (head_at k tokens)
+item_by true k tokens = option_map (made tree.Assoc) (assoc_at k tokens)
+item_by false k tokens = option_map (made tree.Require) (require_at k tokens)
 
 abbrev pub item_at : ℕ → Reader ItemTree
 item_at k tokens = item_by (heads (is_sign "associatedtype") tokens) k tokens
 
 pub item_found : Found IsItem item_at []
-item_found tokens rest form (of_require {semicolon = c} {head = head} p h) s =
-    let requires : heads (is_sign "associatedtype") tokens ≡ false = misses head_head "associatedtype" tokens refl (head_headed tokens (c ∷ rest) head p) in
-    along (λ k. item_at k tokens) (λ k. option_map (past tree.Require) (head_at k tokens)) _ (λ k. rw requires refl)
-    (mapped (λ k. head_at k tokens) (past tree.Require) (head, c ∷ rest) (head_found tokens (c ∷ rest) head p (free (c ∷ rest))))
-item_found tokens rest form (of_assoc {word = w} {name = n} {semicolon = c} {tokens = next} {bases = bases} h i b d) s =
-    along (λ k. item_at k (w ∷ n ∷ next)) (λ k. option_map (past (assoc_tree w n)) (have_at (is_sign ":") bases_at k next)) _ (λ k. rw h refl)
-    (mapped (λ k. have_at (is_sign ":") bases_at k next) (past (assoc_tree w n)) (bases, c ∷ rest)
-    (have_found IsBases (is_sign ":") bases_at bases_stops bases_headed bases_found next (c ∷ rest) bases b (rw d refl) (rw d refl)))
+item_found tokens rest form (item_require {head = head} p) s =
+    let requires : heads (is_sign "associatedtype") tokens ≡ false = misses head_head "associatedtype" tokens refl (require_headed tokens rest head p) in
+    along (λ k. item_at k tokens) (λ k. option_map (made tree.Require) (require_at k tokens)) _ (λ k. rw requires refl)
+    (mapped (λ k. require_at k tokens) (made tree.Require) (head, rest) (require_found tokens rest head p (free rest)))
+item_found tokens rest form (item_assoc {assoc = assoc} p) s =
+    let associated : heads (is_sign "associatedtype") tokens ≡ true = passes_head (is_sign "associatedtype") tokens (assoc_headed tokens rest assoc p) in
+    along (λ k. item_at k tokens) (λ k. option_map (made tree.Assoc) (assoc_at k tokens)) _ (λ k. rw associated refl)
+    (mapped (λ k. assoc_at k tokens) (made tree.Assoc) (assoc, rest) (assoc_found tokens rest assoc p (free rest)))
 
 abbrev pub item_head : Symbol → Bool
 item_head = either head_head (is_sign "associatedtype")
 
 pub item_headed : Headed IsItem item_head
-item_headed tokens rest form (of_require {semicolon = c} {head = head} p h) = this_head _ _ tokens (head_headed tokens (c ∷ rest) head p)
-item_headed tokens rest form (of_assoc {word = w} {name = n} {tokens = next} h i b d) =
-    other_head head_head _ (w ∷ n ∷ next) (headed_by (is_sign "associatedtype") w (n ∷ next) (Sign (codes "associatedtype")) h refl)
+item_headed tokens rest form (item_require {head = head} p) = this_head head_head _ tokens (require_headed tokens rest head p)
+item_headed tokens rest form (item_assoc {assoc = assoc} p) = other_head head_head _ tokens (assoc_headed tokens rest assoc p)
 
 -- bodies
 abbrev not_closing : Symbol → Bool

@@ -145,7 +145,7 @@ param_found : Found IsParam param_at (":" ∷ type_stops)
 param_found tokens rest form (of_param {name = n} {tokens = next} {bound = bound} h t) s =
     mapped (λ k. maybe_type_at k next) (made (param_tree n)) (bound, rest) (maybe_type_found next rest bound t s)
 
-abbrev same : {A : Type 0} → A → A
+abbrev pub same : {A : Type 0} → A → A
 same a = a
 
 abbrev pub params_at : ℕ → Reader (List ParamTree)

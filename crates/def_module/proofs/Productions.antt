@@ -9,7 +9,7 @@ use Rattle.def_tree.specs.StmtTree.{NoStmts, MoreStmts}
 use Rattle.def_tree.specs.Types.{of_word as of_type_word, of_name, of_generic, ended, dotted, type_args, last_type}
 use Rattle.def_tree.specs.TypeTree.{Word, Named, Int, Void, Uint3, NoTypes, MoreTypes}
 use Rattle.def_tree.proofs.ExprSound.{expr_sound}
-use Rattle.def_module.specs.Declarations.{of_import, of_access, of_alias, of_const, of_param, of_params, of_bases, of_where, of_mode, of_semantic, of_arg, of_args, of_field, of_mutating, of_tail, of_head, of_method, member_field, member_method, member_alias, added_method, of_require, of_assoc, of_body, of_struct, of_interface, of_extension, of_set, of_binding, of_buffer, of_shader, of_threads, of_function, decl_import, decl_alias, decl_const, decl_struct, decl_interface, decl_extension, decl_buffer, decl_function}
+use Rattle.def_module.specs.Declarations.{of_import, of_access, of_alias, of_const, of_param, of_params, of_bases, of_where, of_mode, of_semantic, of_arg, of_args, of_field, of_mutating, of_tail, of_head, of_method, member_field, member_method, member_alias, added_method, of_require, of_assoc, item_require, item_assoc, of_body, of_struct, of_interface, of_extension, of_set, of_binding, of_buffer, of_shader, of_threads, of_function, decl_import, decl_alias, decl_const, decl_struct, decl_interface, decl_extension, decl_buffer, decl_function}
 use Rattle.def_module.specs.DeclTree.{Public, Internal, Private, In, InOut, Field, Method, MemberAlias, Require, Assoc, ReadOnly, ReadWrite, Shader, NumThreads, Import, Alias, Const, Struct, Interface, Extension, Buffer, Function}
 use Rattle.def_module.specs.Module.{IsModule, of_header, of_module}
 use Rattle.def_module.specs.Repetition.{of_word, of_name as named, without, with_one, without_any, with_some, no_more, one_more, last_one, and_more}
@@ -172,9 +172,9 @@ an_interface : IsModule
 an_interface = of_module without (one_more (decl_interface (of_interface (with_one (of_access {word = Internal} refl)) refl refl
     (with_some (of_bases refl (last_one (of_name refl ended))))
     (of_body refl
-    (one_more (of_require (of_head without without
-    (of_tail without (of_type_word {word = Int} refl ended) refl (of_args refl without_any refl))) refl)
-    (one_more (of_assoc refl refl (with_some (of_bases refl (last_one (of_name refl ended)))) refl) no_more))
+    (one_more (item_require (of_require (of_head without without
+    (of_tail without (of_type_word {word = Int} refl ended) refl (of_args refl without_any refl))) refl))
+    (one_more (item_assoc (of_assoc refl refl (with_some (of_bases refl (last_one (of_name refl ended)))) refl)) no_more))
     refl without))) no_more) refl
 
 -- `extension S : I { int f() { } }`

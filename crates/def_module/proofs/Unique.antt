@@ -1,17 +1,18 @@
--- Tokens are one module at most, and one thing is told of them at most.
-use Rattle.std.proofs.Common.{◌≡◌, List, [], sym, ap, ◌∙◌}
+-- A text is one module at most, and one thing is told of it at most.
+use Rattle.std.proofs.Common.{◌≡◌, ℕ, List, [], subst, sym, ap, ◌∙◌}
 use Rattle.std.specs.Prelude.{Option, Some, None}
-use Rattle.def_token.specs.Lexical.{Fault, Token}
+use Rattle.def_token.specs.Lexical.{Fault, HasTokens, Token}
+use Rattle.def_token.proofs.Determined.{determined as texts_determined}
 use Rattle.def_tree.specs.Fault.{AtMostOne, IsDetermined}
 use Rattle.def_tree.proofs.Determined.{determined}
 use Rattle.def_tree.proofs.Eventually.{one_value}
 use Rattle.def_module.specs.Built.{not_built}
 use Rattle.def_module.specs.DeclTree.{ModuleTree}
 use Rattle.def_module.specs.Entries.{module_entries}
-use Rattle.def_module.specs.Laws.{SyntaxIsDetermined}
+use Rattle.def_module.specs.Laws.{TreesAreUnique, SyntaxIsDetermined}
 use Rattle.def_module.specs.Module.{IsModule}
 use Rattle.def_module.specs.Twice.{declared_twice}
-use Rattle.def_module.specs.Syntax.{Good, Bad, IsRead, IsRefused, is_good, is_refused, is_twice, is_unbuilt, twice, unbuilt}
+use Rattle.def_module.specs.Syntax.{Answer, Good, Bad, IsRead, IsRefused, IsSyntax, is_good, is_refused, is_twice, is_unbuilt, is_lexical, of_tokens, twice, unbuilt}
 use Rattle.def_module.proofs.Modules.{module_at, module_found}
 
 -- the parts of two pairs that are one
@@ -45,22 +46,36 @@ one_found find this other a b same h k = one_some (sym h ∙ ap find same ∙ k)
     one_some : {A : Type 0} {a b : A} → Some a ≡ Some b → a ≡ b
     one_some h = cc
 
-pub syntax_determined : SyntaxIsDetermined
-syntax_determined tokens this other (is_good {tree = t} p d n) (is_good {tree = u} q e m) = ap Good (one_tree tokens t u p q)
-syntax_determined tokens this other (is_good {tree = t} p d n) (is_refused {fault = f} q) = not_both tokens t f p q
-syntax_determined tokens this other (is_good {tree = t} p d n) (is_twice {tree = u} {name = a} q e) = found_or_not declared_twice t u a (one_tree tokens t u p q) d e
-syntax_determined tokens this other (is_good {tree = t} p d n) (is_unbuilt {tree = u} {token = a} q e m) = found_or_not not_built t u a (one_tree tokens t u p q) n m
-syntax_determined tokens this other (is_refused {fault = f} p) (is_good {tree = u} q e m) = not_both tokens u f q p
-syntax_determined tokens this other (is_refused {fault = f} p) (is_refused {fault = g} q) = ap Bad ((modules_determined tokens).fault f g p q)
-syntax_determined tokens this other (is_refused {fault = f} p) (is_twice {tree = u} q e) = not_both tokens u f q p
-syntax_determined tokens this other (is_refused {fault = f} p) (is_unbuilt {tree = u} q e m) = not_both tokens u f q p
-syntax_determined tokens this other (is_twice {tree = t} {name = a} p d) (is_good {tree = u} q e m) = found_or_not declared_twice u t a (one_tree tokens u t q p) e d
-syntax_determined tokens this other (is_twice {tree = t} p d) (is_refused {fault = f} q) = not_both tokens t f p q
-syntax_determined tokens this other (is_twice {tree = t} {name = a} p d) (is_twice {tree = u} {name = b} q e) =
+one_answer : (tokens : List Token) (this other : Answer) → IsSyntax tokens this → IsSyntax tokens other → this ≡ other
+one_answer tokens this other (is_good {tree = t} p d n) (is_good {tree = u} q e m) = ap Good (one_tree tokens t u p q)
+one_answer tokens this other (is_good {tree = t} p d n) (is_refused {fault = f} q) = not_both tokens t f p q
+one_answer tokens this other (is_good {tree = t} p d n) (is_twice {tree = u} {name = a} q e) = found_or_not declared_twice t u a (one_tree tokens t u p q) d e
+one_answer tokens this other (is_good {tree = t} p d n) (is_unbuilt {tree = u} {token = a} q e m) = found_or_not not_built t u a (one_tree tokens t u p q) n m
+one_answer tokens this other (is_refused {fault = f} p) (is_good {tree = u} q e m) = not_both tokens u f q p
+one_answer tokens this other (is_refused {fault = f} p) (is_refused {fault = g} q) = ap Bad ((modules_determined tokens).fault f g p q)
+one_answer tokens this other (is_refused {fault = f} p) (is_twice {tree = u} q e) = not_both tokens u f q p
+one_answer tokens this other (is_refused {fault = f} p) (is_unbuilt {tree = u} q e m) = not_both tokens u f q p
+one_answer tokens this other (is_twice {tree = t} {name = a} p d) (is_good {tree = u} q e m) = found_or_not declared_twice u t a (one_tree tokens u t q p) e d
+one_answer tokens this other (is_twice {tree = t} p d) (is_refused {fault = f} q) = not_both tokens t f p q
+one_answer tokens this other (is_twice {tree = t} {name = a} p d) (is_twice {tree = u} {name = b} q e) =
     ap (λ (name : Token). Bad (twice name)) (one_found declared_twice t u a b (one_tree tokens t u p q) d e)
-syntax_determined tokens this other (is_twice {tree = t} {name = a} p d) (is_unbuilt {tree = u} q e m) = found_or_not declared_twice u t a (one_tree tokens u t q p) e d
-syntax_determined tokens this other (is_unbuilt {tree = t} {token = a} p d n) (is_good {tree = u} q e m) = found_or_not not_built u t a (one_tree tokens u t q p) m n
-syntax_determined tokens this other (is_unbuilt {tree = t} p d n) (is_refused {fault = f} q) = not_both tokens t f p q
-syntax_determined tokens this other (is_unbuilt {tree = t} p d n) (is_twice {tree = u} {name = a} q e) = found_or_not declared_twice t u a (one_tree tokens t u p q) d e
-syntax_determined tokens this other (is_unbuilt {tree = t} {token = a} p d n) (is_unbuilt {tree = u} {token = b} q e m) =
+one_answer tokens this other (is_twice {tree = t} {name = a} p d) (is_unbuilt {tree = u} q e m) = found_or_not declared_twice u t a (one_tree tokens u t q p) e d
+one_answer tokens this other (is_unbuilt {tree = t} {token = a} p d n) (is_good {tree = u} q e m) = found_or_not not_built u t a (one_tree tokens u t q p) m n
+one_answer tokens this other (is_unbuilt {tree = t} p d n) (is_refused {fault = f} q) = not_both tokens t f p q
+one_answer tokens this other (is_unbuilt {tree = t} p d n) (is_twice {tree = u} {name = a} q e) = found_or_not declared_twice t u a (one_tree tokens t u p q) d e
+one_answer tokens this other (is_unbuilt {tree = t} {token = a} p d n) (is_unbuilt {tree = u} {token = b} q e m) =
     ap (λ (token : Token). Bad (unbuilt token)) (one_found not_built t u a b (one_tree tokens t u p q) n m)
+
+one_text : (text : List ℕ) (this other : Answer) (these others : List Token) → HasTokens text these → HasTokens text others → IsSyntax these this → IsSyntax others other → this ≡ other
+one_text text this other these others h k p q =
+    one_answer others this other (subst (λ tokens. IsSyntax tokens this) ((texts_determined text).tokens these others h k) p) q
+
+pub trees_unique : TreesAreUnique
+trees_unique text this other p q =
+    one_tree q.tokens this other (subst (λ tokens. IsRead tokens this) ((texts_determined text).tokens p.tokens q.tokens p.lexed q.lexed) p.read) q.read
+
+pub syntax_determined : SyntaxIsDetermined
+syntax_determined text this other (is_lexical {fault = f} p) (is_lexical {fault = g} q) = ap Bad ((texts_determined text).fault f g p q)
+syntax_determined text this other (is_lexical {fault = f} p) (of_tokens {tokens = others} k q) = absurd ((texts_determined text).one others f k p)
+syntax_determined text this other (of_tokens {tokens = these} h p) (is_lexical {fault = g} q) = absurd ((texts_determined text).one these g h q)
+syntax_determined text this other (of_tokens {tokens = these} h p) (of_tokens {tokens = others} k q) = one_text text this other these others h k p q

@@ -1,4 +1,4 @@
--- The grammar of declarations.
+-- The grammar of declarations. Parts stand before wholes; the comment of each relation is its production.
 use Rattle.std.specs.Prelude.{◌≡◌, List, ◌∷◌, Option}
 use Rattle.def_token.specs.Lexical.{Token}
 use Rattle.def_tree.specs.ExprTree.{ExprTree}
@@ -162,16 +162,26 @@ pub data IsAddition : List Token → MemberTree → List Token → Type 0 where
       → IsAlias tokens alias rest
       → IsAddition tokens (tree.MemberAlias alias) rest
 
--- Require | Assoc
---     Require = Head ";"
---     Assoc   = "associatedtype" Name [ Bases ] ";"
-pub data IsItem : List Token → ItemTree → List Token → Type 0 where
+-- Require = Head ";"
+pub data IsRequire : List Token → HeadTree → List Token → Type 0 where
   of_require : {semicolon : Token} {tokens rest : List Token} {head : HeadTree}
       → IsHead tokens head (semicolon ∷ rest) → Is ";" semicolon
-      → IsItem tokens (tree.Require head) rest
+      → IsRequire tokens head rest
+
+-- Assoc = "associatedtype" Name [ Bases ] ";"
+pub data IsAssoc : List Token → AssocTree → List Token → Type 0 where
   of_assoc : {word name semicolon : Token} {tokens rest : List Token} {bases : List TypeTree}
       → Is "associatedtype" word → IsName name → MayHave IsBases tokens bases (semicolon ∷ rest) → Is ";" semicolon
-      → IsItem (word ∷ name ∷ tokens) (tree.Assoc (record { word = word; name = name; bases = bases })) rest
+      → IsAssoc (word ∷ name ∷ tokens) (record { word = word; name = name; bases = bases }) rest
+
+-- Require | Assoc
+pub data IsItem : List Token → ItemTree → List Token → Type 0 where
+  item_require : {tokens rest : List Token} {head : HeadTree}
+      → IsRequire tokens head rest
+      → IsItem tokens (tree.Require head) rest
+  item_assoc : {tokens rest : List Token} {assoc : AssocTree}
+      → IsAssoc tokens assoc rest
+      → IsItem tokens (tree.Assoc assoc) rest
 
 -- "{" { Form } "}" [ ";" ]
 pub data IsBody {A : Type 0} (IsForm : List Token → A → List Token → Type 0)

@@ -1,11 +1,11 @@
 -- What the laws of this crate say.
-use Rattle.std.specs.Prelude.{◌≡◌, ◌+◌, List, length}
+use Rattle.std.specs.Prelude.{◌≡◌, ℕ, ◌+◌, List, length}
 use Rattle.def_token.specs.Lexical.{Token}
 use Rattle.def_tree.specs.Fault.{AtMostOne, IsDetermined}
 use Rattle.def_module.specs.DeclTree.{ModuleTree}
 use Rattle.def_module.specs.Entries.{module_entries}
 use Rattle.def_module.specs.Module.{IsModule}
-use Rattle.def_module.specs.Syntax.{Answer, IsSyntax}
+use Rattle.def_module.specs.Syntax.{Answer, HasTree, HasSyntax}
 use Rattle.def_module.specs.Twice.{IsTold}
 
 -- tokens are one module at most
@@ -22,10 +22,13 @@ EntriesCover =
 abbrev pub FaultsAreDetermined : Type 0
 FaultsAreDetermined = (tokens : List Token) → IsDetermined IsModule module_entries tokens
 
--- one thing is told of the tokens of a module at most
+-- a text is one module within the limits at most
+abbrev pub TreesAreUnique : Type 0
+TreesAreUnique = (text : List ℕ) (this other : ModuleTree) → HasTree text this → HasTree text other → this ≡ other
+
+-- one thing is told of a text at most
 abbrev pub SyntaxIsDetermined : Type 0
-SyntaxIsDetermined =
-    (tokens : List Token) (this other : Answer) → IsSyntax tokens this → IsSyntax tokens other → this ≡ other
+SyntaxIsDetermined = (text : List ℕ) (this other : Answer) → HasSyntax text this → HasSyntax text other → this ≡ other
 
 -- which name is declared twice is told of each module
 abbrev pub NamesAreTold : Type 0

@@ -1,6 +1,7 @@
--- What is told of the tokens of a module: its tree, or a fault.
-use Rattle.std.specs.Prelude.{◌≡◌, List, [], ◌∷◌, Some, None}
-use Rattle.def_token.specs.Lexical.{Fault, Token}
+-- What is told of a module: its tree, or a fault.
+use Rattle.std.specs.Prelude.{◌≡◌, ℕ, List, [], ◌∷◌, Some, None}
+use Rattle.def_token.specs.Lexical as lexical
+use Rattle.def_token.specs.Lexical.{Fault, HasTokens, Token}
 use Rattle.def_tree.specs.Fault as parts
 use Rattle.def_module.specs.Built.{not_built}
 use Rattle.def_module.specs.DeclTree.{ModuleTree}
@@ -11,6 +12,12 @@ use Rattle.def_module.specs.Twice.{declared_twice}
 -- the tokens are a module within the limits
 abbrev pub IsRead : List Token → ModuleTree → Type 0
 IsRead tokens tree = parts.IsRead IsModule module_entries tokens tree []
+
+-- the text is a module within the limits
+pub record HasTree (text : List ℕ) (tree : ModuleTree) : Type 0 where
+  pub tokens : List Token
+  pub lexed : HasTokens text tokens
+  pub read : IsRead tokens tree
 
 -- the fault is what is told of tokens that are no module within the limits
 abbrev pub IsRefused : List Token → Fault → Type 0
@@ -41,3 +48,10 @@ pub data IsSyntax (tokens : List Token) : Answer → Type 0 where
   is_unbuilt : {tree : ModuleTree} {token : Token}
       → IsRead tokens tree → declared_twice tree ≡ None → not_built tree ≡ Some token
       → IsSyntax tokens (Bad (unbuilt token))
+
+-- What is told of a text is its first lexical fault, or else what is told of its tokens.
+pub data HasSyntax (text : List ℕ) : Answer → Type 0 where
+  is_lexical : {fault : Fault} → lexical.HasFault text fault → HasSyntax text (Bad fault)
+  of_tokens : {tokens : List Token} {answer : Answer}
+      → HasTokens text tokens → IsSyntax tokens answer
+      → HasSyntax text answer
