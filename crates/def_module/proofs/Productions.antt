@@ -3,12 +3,15 @@ use Rattle.std.proofs.Common.{[], ◌∷◌, refl}
 use Rattle.std.specs.Prelude.{Some, None}
 use Rattle.def_tree.specs.ExprTree as expr
 use Rattle.def_tree.specs.Operator as operator
-use Rattle.def_tree.specs.Statements.{without_type, with_type, of_block, of_nothing, no_stmts, more_stmts}
+use Rattle.def_tree.specs.Statements.{without_type, with_type, NoLocal, of_assignment, of_simple, of_block, of_nothing, no_stmts, more_stmts}
 use Rattle.def_tree.specs.StmtTree as stmt
 use Rattle.def_tree.specs.StmtTree.{NoStmts, MoreStmts}
 use Rattle.def_tree.specs.Types.{of_word as of_type_word, of_name, of_generic, ended, dotted, type_args, last_type}
 use Rattle.def_tree.specs.TypeTree.{Word, Named, Int, Void, Uint3, NoTypes, MoreTypes}
 use Rattle.def_tree.proofs.ExprSound.{expr_sound}
+use Rattle.def_tree.proofs.Refusals.{refuted}
+use Rattle.def_tree.proofs.StmtComplete.{local_is, semicolon_stops}
+use Rattle.def_tree.proofs.StmtReading.{local_at}
 use Rattle.def_module.specs.Declarations.{of_import, of_access, of_alias, of_const, of_param, of_params, of_bases, of_where, of_mode, of_semantic, of_arg, of_args, of_field, of_mutating, of_tail, of_head, of_method, member_field, member_method, member_alias, added_method, of_require, of_assoc, item_require, item_assoc, of_body, of_struct, of_interface, of_extension, of_set, of_binding, of_buffer, of_shader, of_threads, of_function, decl_import, decl_alias, decl_const, decl_struct, decl_interface, decl_extension, decl_buffer, decl_function}
 use Rattle.def_module.specs.DeclTree.{Public, Internal, Private, In, InOut, Field, Method, MemberAlias, Require, Assoc, ReadOnly, ReadWrite, Shader, NumThreads, Import, Alias, Const, Struct, Interface, Extension, Buffer, Function}
 use Rattle.def_module.specs.Module.{IsModule, of_header, of_module}
@@ -331,3 +334,50 @@ a_generic = of_module without (one_more (decl_function (of_function no_more with
     (of_args refl (with_some (last_one (of_arg without (of_name refl ended) refl without))) refl)
     (one_more (of_where refl (of_name refl ended) (of_bases refl (last_one (of_name refl ended)))) no_more)
     (of_block refl (no_stmts refl)))) no_more) refl
+
+-- `b[id.x] = 42;` begins no local
+write_no_local : NoLocal (name "b" 111 ∷ mark "[" 112 ∷ name "id" 113 ∷ mark "." 115 ∷ name "x" 116 ∷ mark "]" 117 ∷ mark "=" 119 ∷ number "42" 121 ∷ mark ";" 123 ∷ mark "}" 125 ∷ ending 126 ∷ [])
+write_no_local local semicolon rest l s =
+    refuted (λ k. local_at k (name "b" 111 ∷ mark "[" 112 ∷ name "id" 113 ∷ mark "." 115 ∷ name "x" 116 ∷ mark "]" 117 ∷ mark "=" 119 ∷ number "42" 121 ∷ mark ";" 123 ∷ mark "}" 125 ∷ ending 126 ∷ []))
+    (local, semicolon ∷ rest) (local_is l (semicolon_stops semicolon rest s)) (λ k. refl)
+
+-- `RWStructuredBuffer<int> b; [shader("compute")] [numthreads(1,1,1)] void main(uint3 id : SV_DispatchThreadID) { b[id.x] = 42; }`
+a_whole_module : IsModule
+    (
+    word "RWStructuredBuffer" 0 ∷ mark "<" 18 ∷ word "int" 19 ∷ mark ">" 22 ∷ name "b" 24 ∷ mark ";" 25 ∷
+    mark "[" 27 ∷ word "shader" 28 ∷ mark "(" 34 ∷ text "\"compute\"" 35 ∷ mark ")" 44 ∷ mark "]" 45 ∷
+    mark "[" 47 ∷ word "numthreads" 48 ∷ mark "(" 58 ∷ number "1" 59 ∷ mark "," 60 ∷ number "1" 61 ∷
+    mark "," 62 ∷ number "1" 63 ∷ mark ")" 64 ∷ mark "]" 65 ∷ word "void" 67 ∷ name "main" 72 ∷ mark "(" 76 ∷
+    word "uint3" 77 ∷ name "id" 83 ∷ mark ":" 86 ∷ name "SV_DispatchThreadID" 88 ∷ mark ")" 107 ∷
+    mark "{" 109 ∷ name "b" 111 ∷ mark "[" 112 ∷ name "id" 113 ∷ mark "." 115 ∷ name "x" 116 ∷ mark "]" 117 ∷
+    mark "=" 119 ∷ number "42" 121 ∷ mark ";" 123 ∷ mark "}" 125 ∷ ending 126 ∷ []
+    )
+    (record {
+      name = None;
+      decls = Buffer (record {
+        binding = None;
+        access = None;
+        kind = ReadWrite;
+        word = (word "RWStructuredBuffer" 0);
+        element = Word Int (word "int" 19) [];
+        name = (name "b" 24);
+      })
+          ∷ Function (record {
+            attrs = Shader (mark "[" 27) (word "shader" 28) (text "\"compute\"" 35) ∷ NumThreads (mark "[" 47) (word "numthreads" 48) (number "1" 59) (number "1" 61) (number "1" 63) ∷ [];
+            access = None;
+            type = Word Void (word "void" 67) [];
+            name = (name "main" 72);
+            params = [];
+            args = record { mode = None; type = Word Uint3 (word "uint3" 77) []; name = (name "id" 83); semantic = Some (name "SV_DispatchThreadID" 88) } ∷ [];
+            wheres = [];
+            body = record { opening = (mark "{" 109); stmts = MoreStmts (stmt.Simple (stmt.Assign operator.Set (mark "=" 119) (expr.Index (expr.Name (name "b" 111) NoTypes) (mark "[" 112) (expr.Member (expr.Name (name "id" 113) NoTypes) (name "x" 116))) (expr.Number (number "42" 121)))) NoStmts };
+          }) ∷ [];
+    }) []
+a_whole_module = of_module without (one_more (decl_buffer (of_buffer {kind = ReadWrite} without without refl refl (of_type_word {word = Int} refl ended) refl refl refl))
+    (one_more (decl_function (of_function
+    (one_more (of_shader refl refl refl refl refl refl) (one_more (of_threads refl refl refl refl refl refl refl refl refl refl) no_more)) without
+    (of_type_word {word = Void} refl ended) refl without_any
+    (of_args refl (with_some (last_one (of_arg without (of_type_word {word = Uint3} refl ended) refl (with_one (of_semantic refl refl))))) refl)
+    no_more (of_block refl (more_stmts
+    (of_simple (of_assignment {assignment = operator.Set} (expr_sound 24 _ _ _ refl) refl (expr_sound 24 _ _ _ refl)) refl write_no_local)
+    (no_stmts refl))))) no_more)) refl

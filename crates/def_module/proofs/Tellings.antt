@@ -16,7 +16,7 @@ use Rattle.def_module.specs.Declarations.{of_body, of_struct, decl_struct}
 use Rattle.def_module.specs.DeclTree.{Public, AccessTree, MemberTree, Field, Method, Shader, DeclTree, Import, Alias, Const, Struct, Extension, Function, ModuleTree}
 use Rattle.def_module.specs.Entries.{attr_entries, decl_entries, module_entries}
 use Rattle.def_module.specs.Module.{IsModule, of_module}
-use Rattle.def_module.specs.Repetition.{without, without_any, no_more, one_more}
+use Rattle.def_module.specs.Repetition.{of_word, with_one, without, without_any, no_more, one_more}
 use Rattle.def_module.specs.Twice.{declared_twice}
 use Rattle.def_module.specs.Syntax.{IsSyntax, Bad, is_refused}
 use Rattle.def_module.proofs.Modules.{module_at, module_found}
@@ -60,6 +60,44 @@ end_refused =
 end_told : IsSyntax (front ++ ending 10 ∷ [])
     (Bad (record { place = record { line = 1; column = 11 }; code = 110; args = codes "end of file" ∷ [] }))
 end_told = is_refused (record { spot = record { at = 3; code = 110 }; refused = end_refused; token = ending 10; stands = refl; told = refl })
+
+-- a semicolon alone is refused
+semicolon_refused : IsRefused IsModule module_entries (mark ";" 0 ∷ ending 1 ∷ []) (record { at = 0; code = 110 })
+semicolon_refused =
+    refused_behind IsModule module_entries [] (ending 1 ∷ []) (mark ";" 0) (module_of [])
+    (record { more = ending 1 ∷ []; rest = []; part = of_module without no_more refl })
+    refl
+    (λ more rest other part. refuted (λ k. module_at k (mark ";" 0 ∷ more)) (other, rest) (module_found part) (λ k. refl))
+
+abbrev struct_tokens : List Token
+struct_tokens = word "struct" 0 ∷ name "S" 7 ∷ mark "{" 9 ∷ mark "}" 11 ∷ mark ";" 13 ∷ []
+
+abbrev struct_ended : ModuleTree
+struct_ended =
+    module_of (Struct (record {
+      access = None;
+      word = word "struct" 0;
+      name = name "S" 7;
+      params = [];
+      bases = [];
+      wheres = [];
+      members = [];
+      semicolon = Some (mark ";" 13);
+    }) ∷ [])
+
+-- `struct S { } ;` may have one semicolon, and a second one is refused
+second_semicolon : IsRefused IsModule module_entries (struct_tokens ++ mark ";" 15 ∷ ending 16 ∷ []) (record { at = 5; code = 110 })
+second_semicolon =
+    refused_behind IsModule module_entries struct_tokens (ending 16 ∷ []) (mark ";" 15) struct_ended
+    (record {
+      more = ending 15 ∷ [];
+      rest = [];
+      part = of_module without
+          (one_more (decl_struct (of_struct without refl refl without_any without_any no_more (of_body refl no_more refl (with_one (of_word refl))))) no_more)
+          refl;
+    })
+    refl
+    (λ more rest other part. refuted (λ k. module_at k (struct_tokens ++ mark ";" 15 ∷ more)) (other, rest) (module_found part) (λ k. refl))
 
 -- declarations by their names alone
 abbrev int_type : TypeTree
