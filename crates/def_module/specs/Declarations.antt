@@ -139,7 +139,13 @@ pub data IsMethod : List Token → MethodTree → List Token → Type 0 where
       {access : Option AccessTree} {tail : TailTree} {body : BlockTree}
       → MayBe IsMutating tokens mutating second → IsAccess second access third
       → MayBe (IsWord "override") third override fourth → IsTail fourth tail fifth → IsBlock fifth body rest
-      → IsMethod tokens (record { mutating = mutating; access = access; override = override; tail = tail; body = body }) rest
+      → IsMethod tokens (record {
+        mutating = mutating;
+        access = access;
+        override = override;
+        tail = tail;
+        body = body;
+      }) rest
 
 -- Field | Method | Alias
 pub data IsMember : List Token → MemberTree → List Token → Type 0 where

@@ -248,7 +248,8 @@ abbrev pub attr_in : List ℕ → AttrTree → trees.AttrTree
 attr_in source (attr.Shader opening word stage) =
     trees.Shader (token_in source opening) (token_in source word) (token_in source stage)
 attr_in source (attr.NumThreads opening word x y z) =
-    trees.NumThreads (token_in source opening) (token_in source word) (token_in source x) (token_in source y) (token_in source z)
+    trees.NumThreads (token_in source opening) (token_in source word)
+    (token_in source x) (token_in source y) (token_in source z)
 
 -- the function that a tree stands for
 abbrev pub function_in : List ℕ → FunctionTree → trees.FunctionTree
