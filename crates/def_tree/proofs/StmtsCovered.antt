@@ -24,7 +24,7 @@ long_length entries =
     ∙ sym (length-append (take greatest_length entries) (drop greatest_length entries))
     ∙ ap length (take-append-drop greatest_length entries)
 
-whole_covered : {tokens rest : List Token} {e : ExprTree} (around : Nesting) → IsExpr tokens e rest → length tokens ≡ length (whole_entries around e) + length rest
+pub whole_covered : {tokens rest : List Token} {e : ExprTree} (around : Nesting) → IsExpr tokens e rest → length tokens ≡ length (whole_entries around e) + length rest
 whole_covered {e = e} around p = omega (arith, expr_covered around p, long_length (expr_entries around e))
 
 -- values with a comma before each
@@ -95,7 +95,7 @@ of_assignment_text BitXorWith = refl
 of_assignment_text ShiftLeftBy = refl
 of_assignment_text ShiftRightBy = refl
 
-assignment_covered : (assignment : Assignment) (token : Token) (tokens rest : List Token) → sign_at (token ∷ tokens) ≡ (codes (assignment_text assignment), rest)
+pub assignment_covered : (assignment : Assignment) (token : Token) (tokens rest : List Token) → sign_at (token ∷ tokens) ≡ (codes (assignment_text assignment), rest)
     → length (token ∷ tokens) ≡ assignment_tokens assignment + length rest
 assignment_covered assignment token tokens rest h =
     sign_covered token tokens ∙ ap (λ (q : SignAt). sign_tokens q.0 + length q.1) h ∙ ap (λ n. n + length rest) (of_assignment_text assignment)

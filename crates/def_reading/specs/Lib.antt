@@ -1,0 +1,10 @@
+-- What the laws say.
+pub mod Laws
+-- How tokens are read, from places on the way to whole forms.
+pub mod Place
+pub mod TypeReading
+pub mod TypeAhead
+pub mod Machine
+pub mod Try
+pub mod StmtReading
+pub mod Plain
