@@ -1,37 +1,19 @@
--- What stands behind a type in a list of types.
-use Rattle.std.specs.Prelude.{◌≡◌, ℕ, List, length, Ok}
-use Rattle.std.specs.List.{All}
-use Rattle.def_token.specs.Lexical as lexical
-use Rattle.def_tree.specs.TypeTree.{TypeTree, TypeTrees, NoTypes, MoreTypes}
-use Rattle.sl_token.specs.View.{IsWithin, token_in, tokens_in}
-use Rattle.sl_token.specs.declared.token.Token.{Token}
-use Rattle.sl_parse_expr.specs.TypeReading.{Reading, making, unexpected, nowhere, list_behind}
-use Rattle.sl_parse_expr.specs.declared.types.Mark.{Mark}
-use Rattle.sl_parse_expr.specs.declared.types.Mark.TheVariants as mark
+-- What marks behind whole expressions lead to.
+use Rattle.std.specs.Prelude.{List}
+use Rattle.def_token.specs.Lexical.{Token}
+use Rattle.def_reading.specs.Machine.{Held, Step, ends_by, colon_by, comma_by, closing_by, index_by}
+use Rattle.def_reading.specs.Place.{Place}
+use Rattle.sl_parse_expr.specs.declared.words.Behind.{Behind}
+use Rattle.sl_parse_expr.specs.declared.words.Behind.TheVariants as behind
 
--- how a list goes on, whatever reads the rest of it
-abbrev pub Onward : Type 0
-Onward = List lexical.Token → Reading TypeTrees
-
--- a comma, and the tokens behind it
-pub record IsComma (source : List ℕ) (tokens behind : List Token) : Type 0 where
-  pub list : (more : Onward) (type : TypeTree)
-      → list_behind more type (tokens_in source tokens) ≡ making (MoreTypes type) (more (tokens_in source behind))
-  pub within : All (λ (token : Token). IsWithin (length source) token.span) behind
-
--- the mark that closes the list, and the tokens behind it
-pub record Closes (source : List ℕ) (tokens behind : List Token) : Type 0 where
-  pub list : (more : Onward) (type : TypeTree)
-      → list_behind more type (tokens_in source tokens) ≡ Ok (MoreTypes type NoTypes, tokens_in source behind)
-  pub within : All (λ (token : Token). IsWithin (length source) token.span) behind
-
--- how the tokens behind a type go on
-abbrev pub IsMark : List ℕ → List Token → Mark → Type 0
-IsMark source tokens (mark.Comma behind) = IsComma source tokens behind.now
-IsMark source tokens (mark.Closing behind) = Closes source tokens behind.now
-IsMark source tokens (mark.Unexpected token) =
-    (more : Onward) (type : TypeTree)
-    → list_behind more type (tokens_in source tokens) ≡ unexpected {A = TypeTrees × List lexical.Token} (token_in source token)
-IsMark source tokens mark.Nothing =
-    (more : Onward) (type : TypeTree)
-    → list_behind more type (tokens_in source tokens) ≡ nowhere {A = TypeTrees × List lexical.Token}
+-- what a mark leads to behind a whole expression
+abbrev pub mark_on : Behind → Held → List Token → Place → Step
+mark_on behind.Call held tokens place = ends_by held tokens place
+mark_on behind.Index held tokens place = ends_by held tokens place
+mark_on behind.Dot held tokens place = ends_by held tokens place
+mark_on behind.Colons held tokens place = ends_by held tokens place
+mark_on behind.Question held tokens place = ends_by held tokens place
+mark_on behind.Colon held tokens place = colon_by held tokens place
+mark_on behind.Comma held tokens place = comma_by held tokens place
+mark_on behind.Closing held tokens place = closing_by held tokens place
+mark_on behind.IndexClosing held tokens place = index_by held tokens place

@@ -1,8 +1,9 @@
 -- Tests of tokens by their kinds and texts.
-use Rattle.std.specs.Prelude.{ℕ, Bool, false, List}
+use Rattle.std.specs.Prelude.{ℕ, Bool, false, List, [], ◌∷◌}
 use Rattle.std.specs.Str.{bytes_eq}
-use Rattle.def_tree.specs.Symbol.{Symbol, Name, Number, Text, End, Sign}
-use Rattle.sl_parse_expr.specs.TypeReading as reading
+use Rattle.def_token.specs.Lexical.{Token}
+use Rattle.def_tree.specs.Symbol.{Symbol, Name, Number, Text, End, Sign, symbol}
+use Rattle.def_reading.specs.TypeReading as reading
 use Rattle.sl_parse_expr.specs.declared.signs.Lead.{Lead}
 use Rattle.sl_parse_expr.specs.declared.signs.Lead.TheVariants as lead
 use Rattle.sl_tree.specs.View.{word_of}
@@ -14,6 +15,11 @@ is_text sign Number = false
 is_text sign Text = false
 is_text sign End = false
 is_text sign (Sign text) = bytes_eq text sign
+
+-- tokens begin with a sign of this text
+abbrev pub begins_text : List ℕ → List Token → Bool
+begins_text sign [] = false
+begins_text sign (token ∷ tokens) = is_text sign (symbol token)
 
 -- what begins a type, as the functions on lists have it
 abbrev pub lead_in : Lead → reading.Lead

@@ -1,13 +1,14 @@
 //! Tests of tokens.
 
-ghost use Rattle.std.specs.Prelude.{◌≡◌, length, [], ◌∷◌};
+ghost use Rattle.std.specs.Prelude.{◌≡◌, [], ◌∷◌};
 ghost use Rattle.def_tree.specs.Symbol.{symbol};
-ghost use Rattle.sl_token.specs.View.{IsWithin, token_in, slice_of};
-ghost use Rattle.sl_parse_expr.specs.Signs.{is_text, lead_in};
-ghost use Rattle.sl_parse_expr.specs.TypeReading as reading;
+ghost use Rattle.sl_token.specs.View.{token_in, tokens_in, slice_of};
+ghost use Rattle.sl_parse_expr.specs.Signs.{begins_text, is_text, lead_in};
+ghost use Rattle.def_reading.specs.TypeAhead.{names};
+ghost use Rattle.def_reading.specs.TypeReading as reading;
 ghost use Rattle.def_tree.specs.TypeTree as types;
 
-use sl_token::{Kind, Token, text_of};
+use sl_token::{Kind, Span, Token};
 use sl_tree::TypeWord;
 
 /// What begins a type.
@@ -18,25 +19,54 @@ pub enum Lead {
     Neither,
 }
 
+/// The bytes of a source at a span, of which no more are taken than there are.
+pub fn text_at(source: &[u8], span: Span) -> &[u8]
+    ensures { result.now ≡ slice_of source.now span }
+{
+    let start = (span.start as usize).min(source.len());
+    let behind = &source[start..];
+    let many = span.end.saturating_sub(span.start) as usize;
+    &behind[..many.min(behind.len())]
+}
+
 /// Whether a token is a mark or a keyword of this text.
 pub fn is_sign(source: &[u8], token: Token, sign: &str) -> bool
-    requires { IsWithin (length source.now) token.span }
     ensures { result ≡ is_text sign.now (symbol (token_in source.now token)) }
 {
     match token.kind {
-        Kind::Mark | Kind::Keyword => text_of(source, token.span) == sign.as_bytes(),
+        Kind::Mark | Kind::Keyword => text_at(source, token.span) == sign.as_bytes(),
         Kind::Name | Kind::Number | Kind::Text | Kind::End => false,
+    }
+}
+
+/// Whether tokens begin with a mark or a keyword of this text.
+pub fn begins_with(source: &[u8], tokens: &[Token], sign: &str) -> bool
+    ensures { result ≡ begins_text sign.now (tokens_in source.now tokens.now) }
+{
+    match tokens.first() {
+        None => false,
+        Some(token) => is_sign(source, *token, sign),
+    }
+}
+
+/// Whether a token is a name.
+pub fn is_name(source: &[u8], token: Token) -> bool
+    ensures { result ≡ names (symbol (token_in source.now token)) }
+{
+    let _ = source.len();
+    match token.kind {
+        Kind::Name => true,
+        _ => false,
     }
 }
 
 /// What a token begins.
 pub fn lead_of(source: &[u8], token: Token) -> Lead
-    requires { IsWithin (length source.now) token.span }
     ensures { lead_in result ≡ reading.lead_of (symbol (token_in source.now token)) }
 {
     match token.kind {
         Kind::Name => Lead::Name,
-        Kind::Mark | Kind::Keyword => lead_among(text_of(source, token.span)),
+        Kind::Mark | Kind::Keyword => lead_among(text_at(source, token.span)),
         Kind::Number | Kind::Text | Kind::End => Lead::Neither,
     }
 }

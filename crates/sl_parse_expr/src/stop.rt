@@ -1,13 +1,14 @@
 //! Where readers stop.
 
+use crate::place::Told;
 use sl_base::NoMemory;
-use sl_token::Token;
+use std::alloc::AllocError;
 
 /// Why a reader stopped.
 #[derive(Debug, Drop)]
 pub enum Stop {
-    /// A token, and the code of what is told there.
-    Fault { token: Token, code: u16 },
+    /// A type is nested too deep.
+    Deep(Told),
     /// Memory ran out.
     NoMemory,
 }
@@ -23,8 +24,13 @@ impl From<NoMemory> for Stop {
     }
 }
 
-/// No tree continues a token.
-pub const UNEXPECTED: u16 = 110;
+impl From<AllocError> for Stop {
+    ghost use Rattle.std.specs.Prelude.{◌≡◌};
+    ghost use Rattle.sl_parse_expr.specs.declared.stop.Stop.TheVariants.{NoMemory};
 
-/// A token opens a form too deep.
-pub const TOO_DEEP: u16 = 111;
+    ghost from_gives = { λ _ stop. stop ≡ NoMemory };
+
+    fn from(_error: AllocError) -> Stop {
+        Stop::NoMemory
+    }
+}

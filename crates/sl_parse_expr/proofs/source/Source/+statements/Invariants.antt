@@ -1,0 +1,29 @@
+use Rattle.std.proofs.Common.{◌+◌, ◌-◌, ◌*◌, length}
+use Rattle.sl_parse_expr.specs.Nestings.{nesting_in}
+use Rattle.sl_parse_expr.proofs.Blocks.{IsBlocked}
+use Rattle.sl_parse_expr.proofs.source.Source.+statements.Given as goal
+
+abbrev pub decreases-stmt : goal.decreases-stmt
+decreases-stmt l = 8 * (length l.self.now.tokens.now - l.here.now.place.at) + 2
+
+abbrev pub decreases-block : goal.decreases-block
+decreases-block l = 8 * (length l.self.now.tokens.now - l.here.now.place.at) + 3
+
+abbrev pub decreases-body : goal.decreases-body
+decreases-body l = 8 * (length l.self.now.tokens.now - l.here.now.place.at) + 3
+
+abbrev pub decreases-conditional : goal.decreases-conditional
+decreases-conditional l = 8 * (length l.self.now.tokens.now - l.here.now.place.at) + 4
+
+abbrev pub decreases-repeated : goal.decreases-repeated
+decreases-repeated l = 8 * (length l.self.now.tokens.now - l.here.now.place.at) + 4
+
+abbrev pub decreases-counted : goal.decreases-counted
+decreases-counted l = 8 * (length l.self.now.tokens.now - l.here.now.place.at) + 4
+
+-- the statements so far stand in front of those that are left
+abbrev pub invariant-block-loop-end : goal.invariant-block-loop-end
+invariant-block-loop-end l = IsBlocked l.self (nesting_in l.around) l.here l.stmts l.next
+
+abbrev pub decreases-block-loop-end : goal.decreases-block-loop-end
+decreases-block-loop-end l = length l.self.tokens.now - l.next.place.at

@@ -1,0 +1,168 @@
+//! Simple statements: assignments, steps by one, and calls alone.
+
+ghost use Rattle.std.specs.Prelude.{◌≡◌, ℕ, List, false};
+ghost use Rattle.std.specs.Option.{option_map};
+ghost use Rattle.def_reading.specs.Machine.{written};
+ghost use Rattle.def_reading.specs.StmtReading as lists;
+ghost use Rattle.def_reading.specs.Try.{try_as, expr_in};
+ghost use Rattle.def_tree.specs.Operator.{assignment_text};
+ghost use Rattle.def_tree.specs.Statements.{is_call};
+ghost use Rattle.def_tree.specs.StmtTree as tree;
+ghost use Rattle.sl_token.specs.View.{token_in};
+ghost use Rattle.sl_tree.specs.View as view;
+ghost use Rattle.sl_parse_expr.specs.Nestings.{nesting_in};
+
+use crate::nesting::Nesting;
+use crate::source::{Here, Source, Unread};
+use crate::touching::sign_at;
+use sl_token::Token;
+use sl_tree::{Assignment, ExprTree, SimpleTree, Step};
+
+/// The assignment that a text is.
+fn assignment_of(text: &[u8]) -> Option<Assignment>
+    ensures { option_map view.assignment_of result ≡ written assignment_text lists.assignments text.now }
+{
+    if text == "=".as_bytes() {
+        Some(Assignment::Set)
+    } else if text == "+=".as_bytes() {
+        Some(Assignment::AddTo)
+    } else if text == "-=".as_bytes() {
+        Some(Assignment::SubtractFrom)
+    } else if text == "*=".as_bytes() {
+        Some(Assignment::MultiplyBy)
+    } else if text == "/=".as_bytes() {
+        Some(Assignment::DivideBy)
+    } else if text == "%=".as_bytes() {
+        Some(Assignment::RemainderBy)
+    } else if text == "&=".as_bytes() {
+        Some(Assignment::BitAndWith)
+    } else if text == "|=".as_bytes() {
+        Some(Assignment::BitOrWith)
+    } else if text == "^=".as_bytes() {
+        Some(Assignment::BitXorWith)
+    } else if text == "<<=".as_bytes() {
+        Some(Assignment::ShiftLeftBy)
+    } else if text == ">>=".as_bytes() {
+        Some(Assignment::ShiftRightBy)
+    } else {
+        None
+    }
+}
+
+/// Whether an expression is a call.
+fn is_call(expr: &ExprTree) -> bool
+    ensures { (source : List ℕ) → result ≡ is_call (view.expr_in source expr.now) }
+{
+    match expr {
+        ExprTree::Call(..) => true,
+        _ => false,
+    }
+}
+
+impl<'a> Here<'a> {
+    ghost use Rattle.def_tree.specs.Limits.{assignment_tokens};
+    ghost use Rattle.sl_parse_expr.specs.Following.{IsBehind};
+
+    /// The place behind an assignment's tokens.
+    fn behind(&self, assignment: Assignment) -> Here<'a>
+        ensures { IsBehind (assignment_tokens (view.assignment_of assignment)) self.now result }
+    {
+        match assignment {
+            Assignment::ShiftRightBy => self.advance().advance().advance(),
+            _ => self.advance(),
+        }
+    }
+}
+
+impl Source<'_> {
+    ghost use Rattle.sl_parse_expr.specs.Following.{Follows, IsAt};
+    ghost use Rattle.sl_parse_expr.specs.Simples.{FollowsExpr};
+
+    /// A call alone.
+    fn alone<'a>(&self, expr: ExprTree, here: &Here<'a>) -> Result<(SimpleTree, Here<'a>), Unread>
+        requires { IsAt self.now here.now.place }
+        ensures { FollowsExpr self.now (λ tree. lists.alone_by (is_call tree) tree) expr here.now result }
+    {
+        if is_call(&expr) {
+            Ok((SimpleTree::Alone(expr), *here))
+        } else {
+            Err(self.refused(here))
+        }
+    }
+
+    /// A place with a step behind it, or a call alone.
+    fn stepped<'a>(&self, expr: ExprTree, here: &Here<'a>) -> Result<(SimpleTree, Here<'a>), Unread>
+        requires { IsAt self.now here.now.place }
+        ensures { FollowsExpr self.now lists.stepped_in expr here.now result }
+    {
+        if let Some((token, behind)) = self.sign("++", here) {
+            return Ok((SimpleTree::StepBehind(Step::Increment, expr, token), behind));
+        }
+        if let Some((token, behind)) = self.sign("--", here) {
+            return Ok((SimpleTree::StepBehind(Step::Decrement, expr, token), behind));
+        }
+        self.alone(expr, here)
+    }
+
+    /// What stands behind the expression with which a simple statement begins.
+    fn assigned<'a>(
+        &self,
+        around: &Nesting,
+        expr: ExprTree,
+        here: &Here<'a>,
+    ) -> Result<(SimpleTree, Here<'a>), Unread>
+        requires { IsAt self.now here.now.place }
+        ensures { FollowsExpr self.now (lists.assigned_in (nesting_in around.now)) expr here.now result }
+    {
+        let Some((token, _)) = here.place.rest.split_first() else {
+            return self.alone(expr, here);
+        };
+        match assignment_of(sign_at(self.bytes, here.place.rest)) {
+            None => self.stepped(expr, here),
+            Some(assignment) => {
+                let behind = here.behind(assignment);
+                let (value, end) = self.value(around, &behind)?;
+                Ok((SimpleTree::Assign(assignment, *token, expr, value), end))
+            }
+        }
+    }
+
+    /// A place behind its step.
+    fn step_before<'a>(
+        &self,
+        around: &Nesting,
+        step: Step,
+        token: Token,
+        here: &Here<'a>,
+    ) -> Result<(SimpleTree, Here<'a>), Unread>
+        requires { IsAt self.now here.now.place }
+        ensures { let source = self.now.bytes.now in
+            Follows self.now (view.simple_in source)
+            (λ reach place. try_as (tree.StepBefore (view.step_of step) (token_in source token))
+            (expr_in false (nesting_in around.now) reach place))
+            here.now result }
+    {
+        let (expr, end) = self.value(around, here)?;
+        Ok((SimpleTree::StepBefore(step, token, expr), end))
+    }
+
+    /// A simple statement.
+    pub fn simple<'a>(
+        &self,
+        around: &Nesting,
+        here: &Here<'a>,
+    ) -> Result<(SimpleTree, Here<'a>), Unread>
+        requires { IsAt self.now here.now.place }
+        ensures { Follows self.now (view.simple_in self.now.bytes.now)
+            (lists.simple_in (nesting_in around.now)) here.now result }
+    {
+        if let Some((token, behind)) = self.sign("++", here) {
+            return self.step_before(around, Step::Increment, token, &behind);
+        }
+        if let Some((token, behind)) = self.sign("--", here) {
+            return self.step_before(around, Step::Decrement, token, &behind);
+        }
+        let (expr, behind) = self.whole(around, true, here)?;
+        self.assigned(around, expr, &behind)
+    }
+}

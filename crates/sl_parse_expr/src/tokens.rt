@@ -1,0 +1,98 @@
+//! Single tokens of forms, and what is told where none goes on.
+
+ghost use Rattle.std.specs.Prelude.{true};
+ghost use Rattle.def_reading.specs.TypeAhead.{names};
+ghost use Rattle.def_tree.specs.Limits.{plain};
+ghost use Rattle.sl_parse_expr.specs.Signs.{is_text};
+
+use crate::place::{Place, TOO_DEEP, Told};
+use crate::reach::{further, reach_at, settled};
+use crate::signs::{is_name, is_sign};
+use crate::source::{Here, Source, Unread};
+use sl_token::Token;
+
+impl<'a> Here<'a> {
+    ghost use Rattle.sl_parse_expr.specs.Following.{IsNoting};
+
+    /// The same place, where a token opens too much, or not.
+    pub fn noting(&self, deep: bool, at: usize, token: Token) -> Here<'a>
+        ensures { IsNoting deep at token self.now result }
+    {
+        let limit = if deep && self.place.limit.is_none() {
+            Some(Told {
+                at,
+                token,
+                code: TOO_DEEP,
+            })
+        } else {
+            self.place.limit
+        };
+        Here {
+            place: Place {
+                at: self.place.at,
+                limit,
+                rest: self.place.rest,
+            },
+            reach: self.reach,
+        }
+    }
+}
+
+impl Source<'_> {
+    ghost use Rattle.sl_parse_expr.specs.Following.{IsAt, MayPass, MustPass, Refuses};
+
+    /// No token goes on here.
+    pub fn refused(&self, here: &Here<'_>) -> Unread
+        ensures { Refuses self.now here.now result }
+    {
+        let _ = self.tokens.len();
+        Unread::Refused(further(here.reach, reach_at(None, 0, &settled(&here.place))))
+    }
+
+    /// The next token, if there is one, and what stands behind it.
+    pub fn token<'a>(&self, here: &Here<'a>) -> Option<(Token, Here<'a>)>
+        requires { IsAt self.now here.now.place }
+        ensures { MayPass self.now (λ symbol. true) here.now result }
+    {
+        let _ = self.tokens.len();
+        match here.place.rest.split_first() {
+            None => None,
+            Some((token, _)) => Some((*token, here.advance())),
+        }
+    }
+
+    /// The next token, if it is this sign, and what stands behind it.
+    pub fn sign<'a>(&self, sign: &str, here: &Here<'a>) -> Option<(Token, Here<'a>)>
+        requires { IsAt self.now here.now.place }
+        ensures { MayPass self.now (is_text sign.now) here.now result }
+    {
+        match here.place.rest.split_first() {
+            Some((token, _)) if is_sign(self.bytes, *token, sign) => {
+                Some((*token, here.advance()))
+            }
+            _ => None,
+        }
+    }
+
+    /// The next token, if it is a name, and what stands behind it.
+    pub fn name<'a>(&self, here: &Here<'a>) -> Result<(Token, Here<'a>), Unread>
+        requires { IsAt self.now here.now.place }
+        ensures { MustPass self.now names plain here.now result }
+    {
+        match here.place.rest.split_first() {
+            Some((token, _)) if is_name(self.bytes, *token) => Ok((*token, here.advance())),
+            _ => Err(self.refused(here)),
+        }
+    }
+
+    /// The next token, which is this sign, and what stands behind it.
+    pub fn mark<'a>(&self, sign: &str, here: &Here<'a>) -> Result<(Token, Here<'a>), Unread>
+        requires { IsAt self.now here.now.place }
+        ensures { MustPass self.now (is_text sign.now) plain here.now result }
+    {
+        match self.sign(sign, here) {
+            Some(found) => Ok(found),
+            None => Err(self.refused(here)),
+        }
+    }
+}
