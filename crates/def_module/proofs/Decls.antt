@@ -89,7 +89,7 @@ abbrev pub struct_at : ℕ → Reader StructTree
 struct_at k tokens = option_and_then (λ access. struct_named access k) (access_at k tokens)
 
 -- what stands behind bases
-abbrev wheres_head : Symbol → Bool
+abbrev pub wheres_head : Symbol → Bool
 wheres_head = either where_head (is_sign "{")
 
 pub struct_found : Found IsStruct struct_at (";" ∷ [])
@@ -165,7 +165,7 @@ abbrev set_at : ℕ → Reader Token
 set_at k (comma ∷ number ∷ tokens) = Some (number, tokens)
 set_at k _ = None
 
-set_headed : Headed IsSet (is_sign ",")
+pub set_headed : Headed IsSet (is_sign ",")
 set_headed tokens rest form (of_set {comma = c} {number = n} h i) = headed_by (is_sign ",") c (n ∷ rest) (Sign (codes ",")) h refl
 
 set_found : Found IsSet set_at []

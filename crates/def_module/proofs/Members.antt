@@ -53,7 +53,7 @@ field_typed access k =
 abbrev field_at : ℕ → Reader FieldTree
 field_at k tokens = option_and_then (λ access. field_typed access k) (access_at k tokens)
 
-names_headed : Headed (AreListed IsNamed) is_name
+pub names_headed : Headed (AreListed IsNamed) is_name
 names_headed tokens rest names l = listed_head IsNamed is_name tokens rest names named_headed l
 
 field_found : Found IsField field_at []
@@ -92,10 +92,10 @@ tail_found tokens rest form (of_tail {name = n} {behind = next} {after = after} 
     (type_found next (n ∷ after) type t (rw h refl))
     (mapped (λ k. args_at k after) (made (tail_tree static type n)) (args, rest) (args_found after rest args a (free rest))))
 
-abbrev tail_head : Symbol → Bool
+abbrev pub tail_head : Symbol → Bool
 tail_head = either (is_sign "static") begins_type
 
-tail_headed : Headed IsTail tail_head
+pub tail_headed : Headed IsTail tail_head
 tail_headed tokens rest form (of_tail {behind = next} {static = static} w t h a) =
     maybe_head _ (is_sign "static") begins_type tokens next static (word_headed "static" refl) w (type_head t)
 
@@ -104,7 +104,7 @@ abbrev mutating_at : ℕ → Reader Token
 mutating_at k (opening ∷ word ∷ closing ∷ tokens) = Some (word, tokens)
 mutating_at k _ = None
 
-mutating_headed : Headed IsMutating (is_sign "[")
+pub mutating_headed : Headed IsMutating (is_sign "[")
 mutating_headed tokens rest form (of_mutating {opening = o} {word = w} {closing = c} h i j) = headed_by (is_sign "[") o (w ∷ c ∷ rest) (Sign (codes "[")) h refl
 
 mutating_found : Found IsMutating mutating_at []
@@ -136,10 +136,10 @@ head_found tokens rest form (of_head {behind = next} {after = after} {mutating =
     (access_found next after access p (avoids tail_head access_signs after refl from_tail))
     (mapped (λ k. tail_at k after) (made (head_tree mutating access)) (tail, rest) (tail_found after rest tail t (free rest))))
 
-abbrev head_head : Symbol → Bool
+abbrev pub head_head : Symbol → Bool
 head_head = either (is_sign "[") (either access_head tail_head)
 
-head_headed : Headed IsHead head_head
+pub head_headed : Headed IsHead head_head
 head_headed tokens rest form (of_head {behind = next} {after = after} {mutating = mutating} {access = access} {tail = tail} m p t) =
     maybe_head _ (is_sign "[") (either access_head tail_head) tokens next mutating mutating_headed m
     (maybe_head _ access_head tail_head next after access access_headed p (tail_headed after rest tail t))
@@ -162,7 +162,7 @@ method_opened mutating k = option_and_then (λ access. method_access mutating.0 
 abbrev method_at : ℕ → Reader MethodTree
 method_at k tokens = option_and_then (λ mutating. method_opened mutating k) (maybe_mutating_at k tokens)
 
-abbrev override_head : Symbol → Bool
+abbrev pub override_head : Symbol → Bool
 override_head = either (is_sign "override") tail_head
 
 abbrev method_head : Symbol → Bool
@@ -354,7 +354,7 @@ abbrev assoc_at : ℕ → Reader AssocTree
 assoc_at k (word ∷ name ∷ tokens) = option_map (past (assoc_tree word name)) (have_at (is_sign ":") bases_at k tokens)
 assoc_at k _ = None
 
-assoc_headed : Headed IsAssoc (is_sign "associatedtype")
+pub assoc_headed : Headed IsAssoc (is_sign "associatedtype")
 assoc_headed tokens rest form (of_assoc {word = w} {name = n} {tokens = next} h i b d) = headed_by (is_sign "associatedtype") w (n ∷ next) (Sign (codes "associatedtype")) h refl
 
 assoc_found : Found IsAssoc assoc_at []
@@ -365,7 +365,7 @@ assoc_found tokens rest form (of_assoc {word = w} {name = n} {semicolon = c} {to
 abbrev require_at : ℕ → Reader HeadTree
 require_at k tokens = option_map (past same) (head_at k tokens)
 
-require_headed : Headed IsRequire head_head
+pub require_headed : Headed IsRequire head_head
 require_headed tokens rest form (of_require {semicolon = c} p h) = head_headed tokens (c ∷ rest) form p
 
 require_found : Found IsRequire require_at []

@@ -164,7 +164,7 @@ buffer_head = either (is_sign "[") keyed_head
 abbrev function_head : Symbol → Bool
 function_head = either (is_sign "[") typed_head
 
-abbrev decl_head : Symbol → Bool
+abbrev pub decl_head : Symbol → Bool
 decl_head = either keyed_head (either buffer_head function_head)
 
 import_headed : Headed IsImport keyed_head
@@ -179,7 +179,7 @@ function_headed : Headed IsFunction function_head
 function_headed tokens rest form (of_function {second = a} {third = b} {attrs = attrs} {access = access} m p t h ps as' ws bl) =
     many_head IsAttr (is_sign "[") typed_head tokens a attrs attr_headed m (maybe_head _ access_head begins_type a b access access_headed p (type_head t))
 
-decl_headed : Headed IsDecl decl_head
+pub decl_headed : Headed IsDecl decl_head
 decl_headed tokens rest form (decl_import {import' = one} p) = this_head keyed_head _ tokens (import_headed tokens rest one p)
 decl_headed tokens rest form (decl_alias (of_alias {word = w} {name = n} {equals = e} {behind = next} {access = access} p h i j t d)) =
     this_head keyed_head _ tokens (keyed_headed LeadAlias tokens (n ∷ e ∷ next) access w p h)
@@ -221,7 +221,7 @@ abbrev header_at : ℕ → Reader Token
 header_at k (word ∷ name ∷ semicolon ∷ tokens) = Some (name, tokens)
 header_at k _ = None
 
-header_headed : Headed IsHeader (is_sign "module")
+pub header_headed : Headed IsHeader (is_sign "module")
 header_headed tokens rest form (of_header {word = w} {name = n} {semicolon = c} h i d) = headed_by (is_sign "module") w (n ∷ c ∷ rest) (Sign (codes "module")) h refl
 
 header_found : Found IsHeader header_at []

@@ -111,7 +111,7 @@ access_found tokens rest access p h = maybe_found IsAccessWord access_head acces
 abbrev pub type_stops : List String
 type_stops = "." ∷ "<" ∷ []
 
-type_ends : (type : TypeTree) (rest : List Token) → heads (one_of type_stops) rest ≡ false → type_goes_on type rest ≡ false
+pub type_ends : (type : TypeTree) (rest : List Token) → heads (one_of type_stops) rest ≡ false → type_goes_on type rest ≡ false
 type_ends type [] s = and-false (is_name_alone type)
 type_ends type (mark ∷ tokens) s =
     let both = or_parts (is_sign "." (symbol mark)) (one_of ("<" ∷ []) (symbol mark)) s in
@@ -219,7 +219,7 @@ abbrev mode_at : ℕ → Reader ModeTree
 mode_at k [] = None
 mode_at k (token ∷ tokens) = option_map (mode_of token tokens) (found_in mode_text mode_words (symbol token))
 
-abbrev mode_head : Symbol → Bool
+abbrev pub mode_head : Symbol → Bool
 mode_head = one_of ("in" ∷ "inout" ∷ [])
 
 mode_passes : (word : ModeWord) → mode_head (Sign (codes (mode_text word))) ≡ true
@@ -230,7 +230,7 @@ mode_is : (word : ModeWord) → found_in mode_text mode_words (Sign (codes (mode
 mode_is In = refl
 mode_is InOut = refl
 
-mode_headed : Headed IsMode mode_head
+pub mode_headed : Headed IsMode mode_head
 mode_headed tokens rest form (of_mode {word = w} {token = t} h) = headed_by mode_head t rest (Sign (codes (mode_text w))) h (mode_passes w)
 
 mode_found : Found IsMode mode_at []
@@ -241,7 +241,7 @@ abbrev semantic_at : ℕ → Reader Token
 semantic_at k (colon ∷ name ∷ tokens) = Some (name, tokens)
 semantic_at k _ = None
 
-semantic_headed : Headed IsSemantic (is_sign ":")
+pub semantic_headed : Headed IsSemantic (is_sign ":")
 semantic_headed tokens rest form (of_semantic {colon = c} {name = n} h i) = headed_by (is_sign ":") c (n ∷ rest) (Sign (codes ":")) h refl
 
 semantic_found : Found IsSemantic semantic_at []
@@ -260,7 +260,7 @@ arg_typed mode k = option_and_then (λ type. arg_named mode.0 type.0 k type.1) (
 abbrev arg_at : ℕ → Reader ArgTree
 arg_at k tokens = option_and_then (λ mode. arg_typed mode k) (maybe_at mode_head mode_at k tokens)
 
-arg_headed : Headed IsArg (either mode_head begins_type)
+pub arg_headed : Headed IsArg (either mode_head begins_type)
 arg_headed tokens rest form (of_arg {name = n} {behind = next} {after = after} {mode = mode} {type = type} m t h x) =
     maybe_head IsMode mode_head begins_type tokens next mode mode_headed m (type_head t)
 
