@@ -1,0 +1,5 @@
+pub mod Clashing
+pub mod Forms
+pub mod Noting
+pub mod Searching
+pub mod Small

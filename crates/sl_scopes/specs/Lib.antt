@@ -1,0 +1,4 @@
+-- What functions inside promise each other.
+pub mod Names
+pub mod Search
+pub mod Seen
