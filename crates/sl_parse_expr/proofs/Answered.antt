@@ -81,7 +81,7 @@ module _ {B : Type 0} (IsPart : List Token → B → List Token → Type 0) (ent
     abbrev bytes : List ℕ
     bytes = source.bytes.now
 
-    unread_fault : (why : Unread) (answer : ParseRefusal) → Comes source view reader here (Err why) → IsExactTry (drop from all) (on_lists source reader here) → TellsUnread bytes why answer → TellsFault IsPart entries_of all from answer
+    pub unread_fault : (why : Unread) (answer : ParseRefusal) → Comes source view reader here (Err why) → IsExactTry (drop from all) (on_lists source reader here) → TellsUnread bytes why answer → TellsFault IsPart entries_of all from answer
     unread_fault (unread.Refused None) answer is exact told =
         tells all from (fault_at 110 no_token) answer (subst (IsExactTry (drop from all)) is exact) told
     unread_fault (unread.Refused (Some reach)) answer is exact told =
@@ -90,14 +90,14 @@ module _ {B : Type 0} (IsPart : List Token → B → List Token → Type 0) (ent
         tells all from (fault_at deep.code (token_in bytes deep.token)) answer (decided (drop from all) (told_in bytes deep) (on_lists source reader here) is exact) told
     unread_fault unread.NoMemory answer is exact told = subst (TellsFault IsPart entries_of all from) (sym told) tt
 
-    limit_fault : (tree : B) (place : Place) (limit : Option Told) (reach : Option places.Reach) (answer : ParseRefusal) → place.limit ≡ limit → IsExactTry (drop from all) (Reads tree (place_in bytes place) reach) → IsRefusedAt bytes limit answer
+    pub limit_fault : (tree : B) (place : Place) (limit : Option Told) (reach : Option places.Reach) (answer : ParseRefusal) → place.limit ≡ limit → IsExactTry (drop from all) (Reads tree (place_in bytes place) reach) → IsRefusedAt bytes limit answer
         → TellsFault IsPart entries_of all from answer
     limit_fault tree place None reach answer is exact h = absurd h
     limit_fault tree place (Some told) reach answer is exact h =
         tells all from (fault_at told.code (token_in bytes told.token)) answer
         (subst (λ limit. IsExactTry (drop from all) (Reads tree (At place.at (option_map (told_in bytes) limit) (tokens_in bytes place.rest.now)) reach)) is exact) h
 
-    whole_read : (tree : B) (place : Place) (reach : Option places.Reach) → place.limit ≡ None → IsExactTry (drop from all) (Reads tree (place_in bytes place) reach)
+    pub whole_read : (tree : B) (place : Place) (reach : Option places.Reach) → place.limit ≡ None → IsExactTry (drop from all) (Reads tree (place_in bytes place) reach)
         → IsRead IsPart entries_of (drop from all) tree (tokens_in bytes place.rest.now)
     whole_read tree place reach is exact =
         subst (λ limit. IsExactTry (drop from all) (Reads tree (At place.at (option_map (told_in bytes) limit) (tokens_in bytes place.rest.now)) reach)) is exact

@@ -65,6 +65,11 @@ abbrev pub MayPass : Source → (Symbol → Bool) → Here → Option (Token × 
 MayPass source test from None = passes test (tokens_in source.bytes.now from.place.rest.now) ≡ false
 MayPass source test from (Some found) = IsPassed source test plain from found.0 found.1
 
+-- the next token, if it passes a test, where this ends at the token
+abbrev pub MayOpen : Source → (Symbol → Bool) → Entry → Here → Option (Token × Here) → Type 0
+MayOpen source test entry from None = passes test (tokens_in source.bytes.now from.place.rest.now) ≡ false
+MayOpen source test entry from (Some found) = IsPassed source test entry from found.0 found.1
+
 -- the place behind so many of the next tokens, where nothing ends at them
 pub record IsBehind (many : ℕ) (from to : Here) : Type 0 where
   pub place : (source : List ℕ) → place_in source to.place ≡ passed (replicate many plain) (place_in source from.place)

@@ -1,10 +1,11 @@
 -- What statements promise, whose blocks and bodies may be nested too deep.
-use Rattle.std.specs.Prelude.{◌≡◌, ℕ, ◌+◌, ◌<◌, ◌^◌, ◌⊎◌, Bool, true, nat_lt, List, length, Option, Some, None, Result, Ok, Err}
+use Rattle.std.specs.Prelude.{◌≡◌, ℕ, suc, ◌+◌, ◌<◌, ◌^◌, ◌⊎◌, Bool, true, nat_lt, List, length, Option, Some, None, Result, Ok, Err}
 use Rattle.std.specs.Option.{option_map}
 use Rattle.def_tree.specs.ExprTree as exprs
 use Rattle.def_tree.specs.Limits as limits
 use Rattle.def_tree.specs.Limits.{Entry}
 use Rattle.def_tree.specs.StmtTree as stmts
+use Rattle.def_tree.specs.StmtTree.{StmtTrees}
 use Rattle.def_tree.specs.Symbol.{is_sign}
 use Rattle.def_reading.specs.Place as places
 use Rattle.def_reading.specs.StmtReading as reading
@@ -119,3 +120,12 @@ opening_in opening.Continue = reading.Continue
 opening_in opening.If = reading.If
 opening_in opening.While = reading.While
 opening_in opening.For = reading.For
+
+-- statements up to the closing brace, inside what is open, each in at most so many turns
+abbrev pub stmts_in : limits.Nesting → ℕ → lists.Reader StmtTrees
+stmts_in around turns reach place =
+    reading.stmts_in (reading.stmt_in turns around) (suc (length (lists.ahead place))) reach place
+
+-- statements up to the closing brace, inside what is open
+abbrev pub stmts_read : limits.Nesting → lists.Reader StmtTrees
+stmts_read around reach place = stmts_in around (suc (length (lists.ahead place))) reach place

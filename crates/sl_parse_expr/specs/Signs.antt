@@ -1,5 +1,5 @@
 -- Tests of tokens by their kinds and texts.
-use Rattle.std.specs.Prelude.{ℕ, Bool, false, List, [], ◌∷◌}
+use Rattle.std.specs.Prelude.{ℕ, Bool, true, false, List, [], ◌∷◌}
 use Rattle.std.specs.Str.{bytes_eq}
 use Rattle.def_token.specs.Lexical.{Token}
 use Rattle.def_tree.specs.Symbol.{Symbol, Name, Number, Text, End, Sign, symbol}
@@ -15,6 +15,30 @@ is_text sign Number = false
 is_text sign Text = false
 is_text sign End = false
 is_text sign (Sign text) = bytes_eq text sign
+
+-- the symbol is a number
+abbrev pub numbers : Symbol → Bool
+numbers Name = false
+numbers Number = true
+numbers Text = false
+numbers End = false
+numbers (Sign text) = false
+
+-- the symbol is a string
+abbrev pub texts : Symbol → Bool
+texts Name = false
+texts Number = false
+texts Text = true
+texts End = false
+texts (Sign text) = false
+
+-- the symbol is the end
+abbrev pub ends : Symbol → Bool
+ends Name = false
+ends Number = false
+ends Text = false
+ends End = true
+ends (Sign text) = false
 
 -- tokens begin with a sign of this text
 abbrev pub begins_text : List ℕ → List Token → Bool

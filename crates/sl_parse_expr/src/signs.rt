@@ -3,7 +3,7 @@
 ghost use Rattle.std.specs.Prelude.{◌≡◌, [], ◌∷◌};
 ghost use Rattle.def_tree.specs.Symbol.{symbol};
 ghost use Rattle.sl_token.specs.View.{token_in, tokens_in, slice_of};
-ghost use Rattle.sl_parse_expr.specs.Signs.{begins_text, is_text, lead_in};
+ghost use Rattle.sl_parse_expr.specs.Signs.{begins_text, ends, is_text, lead_in, numbers, texts};
 ghost use Rattle.def_reading.specs.TypeAhead.{names};
 ghost use Rattle.def_reading.specs.TypeReading as reading;
 ghost use Rattle.def_tree.specs.TypeTree as types;
@@ -56,6 +56,39 @@ pub fn is_name(source: &[u8], token: Token) -> bool
     let _ = source.len();
     match token.kind {
         Kind::Name => true,
+        _ => false,
+    }
+}
+
+/// Whether a token is the end.
+pub fn is_end(source: &[u8], token: Token) -> bool
+    ensures { result ≡ ends (symbol (token_in source.now token)) }
+{
+    let _ = source.len();
+    match token.kind {
+        Kind::End => true,
+        _ => false,
+    }
+}
+
+/// Whether a token is a number.
+pub fn is_number(source: &[u8], token: Token) -> bool
+    ensures { result ≡ numbers (symbol (token_in source.now token)) }
+{
+    let _ = source.len();
+    match token.kind {
+        Kind::Number => true,
+        _ => false,
+    }
+}
+
+/// Whether a token is a string.
+pub fn is_text(source: &[u8], token: Token) -> bool
+    ensures { result ≡ texts (symbol (token_in source.now token)) }
+{
+    let _ = source.len();
+    match token.kind {
+        Kind::Text => true,
         _ => false,
     }
 }

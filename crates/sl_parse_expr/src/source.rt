@@ -5,9 +5,11 @@ ghost use Rattle.sl_token.specs.View.{tokens_in};
 ghost use Rattle.sl_parse_expr.specs.Ending.{IsTable};
 
 use crate::ahead::Ends;
+pub use crate::ahead::ahead_of;
 use crate::machine::Around;
 use crate::nesting::Nesting;
 use crate::place::{Place, Reach, Told};
+pub use crate::refusal::{refusal, refusal_of};
 use crate::run::long_from;
 use sl_base::NoMemory;
 use sl_token::Token;

@@ -1,6 +1,6 @@
 //! Statements.
 
-ghost use Rattle.std.specs.Prelude.{◌≡◌, ◌+◌, ◌<◌, ◌^◌, ℕ, true, List};
+ghost use Rattle.std.specs.Prelude.{◌≡◌, ◌+◌, ◌<◌, ◌^◌, ℕ, true, List, map};
 ghost use Rattle.std.specs.Option.{option_map};
 ghost use Rattle.def_reading.specs.Machine.{sign_of, written};
 ghost use Rattle.def_reading.specs.StmtReading as lists;
@@ -9,7 +9,7 @@ ghost use Rattle.def_tree.specs.Limits.{in_block, in_statement, opens, plain};
 ghost use Rattle.def_tree.specs.StmtTree as tree;
 ghost use Rattle.def_tree.specs.Symbol.{symbol};
 ghost use Rattle.sl_token.specs.View.{token_in};
-ghost use Rattle.sl_tree.specs.View.{stmt_in};
+ghost use Rattle.sl_tree.specs.View.{stmt_in, stmts_of};
 ghost use Rattle.sl_parse_expr.specs.Eithers.{either_in, made_of};
 ghost use Rattle.sl_parse_expr.specs.Nestings.{nesting_in};
 ghost use Rattle.sl_parse_expr.specs.Settling.{is_short, opening_in};
@@ -119,7 +119,7 @@ impl Here<'_> {
 impl Source<'_> {
     ghost use Rattle.sl_parse_expr.specs.Eithers.{GoesOn};
     ghost use Rattle.sl_parse_expr.specs.Following.{Follows, IsAt, IsPassed};
-    ghost use Rattle.sl_parse_expr.specs.Settling.{IsBegun, IsRoomy, SettlesIn, head_in, head_read};
+    ghost use Rattle.sl_parse_expr.specs.Settling.{IsBegun, IsRoomy, Settles, SettlesIn, head_in, head_read, stmts_in, stmts_read};
 
     /// Where a body begins, which may be one too many.
     fn begun<'a>(&self, around: &Nesting, here: &Here<'a>) -> Here<'a>
@@ -256,14 +256,31 @@ impl Source<'_> {
             SettlesIn self.now (stmt_in source) (λ turns. lists.block_in (nesting_in around.now)
             (lists.stmt_in turns) (token_in source opening)) here.now result }
     {
-        let inside = around.in_block();
+        let (stmts, end) = self.stmts(&around.in_block(), here)?;
+        Ok((StmtTree::Block(opening, stmts), end))
+    }
+
+    /// The statements up to the closing brace, inside what is open.
+    #[cycle(statements)]
+    pub fn stmts<'a>(
+        &self,
+        inside: &Nesting,
+        here: &Here<'a>,
+    ) -> Result<(Items<StmtTree>, Here<'a>), Unread>
+        requires at { IsAt self.now here.now.place }
+        requires room { IsRoomy self.now inside.now 0 here.now }
+        ensures turns { SettlesIn self.now (λ stmts. stmts_of (map (stmt_in self.now.bytes.now) stmts))
+            (stmts_in (nesting_in inside.now)) here.now result }
+        ensures read { Settles self.now (λ stmts. stmts_of (map (stmt_in self.now.bytes.now) stmts))
+            (stmts_read (nesting_in inside.now)) here.now result }
+    {
         let mut stmts = Items::new(self.alloc);
         let mut next = *here;
         loop {
             if let Some((_, end)) = self.sign("}", &next) {
-                return Ok((StmtTree::Block(opening, stmts), end));
+                return Ok((stmts, end));
             }
-            let (stmt, behind) = self.stmt(&inside, &next)?;
+            let (stmt, behind) = self.stmt(inside, &next)?;
             stmts.push(stmt)?;
             next = behind;
         }

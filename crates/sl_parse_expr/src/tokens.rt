@@ -1,13 +1,14 @@
 //! Single tokens of forms, and what is told where none goes on.
 
-ghost use Rattle.std.specs.Prelude.{true};
+ghost use Rattle.std.specs.Prelude.{◌≡◌, suc, true};
 ghost use Rattle.def_reading.specs.TypeAhead.{names};
-ghost use Rattle.def_tree.specs.Limits.{plain};
-ghost use Rattle.sl_parse_expr.specs.Signs.{is_text};
+ghost use Rattle.def_tree.specs.Limits.{opens, plain};
+ghost use Rattle.sl_token.specs.View.{tokens_in};
+ghost use Rattle.sl_parse_expr.specs.Signs.{ends, is_text, numbers, texts};
 
-use crate::place::{Place, TOO_DEEP, Told};
+use crate::place::{Place, TOO_DEEP, Told, is_too_deep};
 use crate::reach::{further, reach_at, settled};
-use crate::signs::{is_name, is_sign};
+use crate::signs::{begins_with, is_end, is_name, is_number, is_sign, is_text};
 use crate::source::{Here, Source, Unread};
 use sl_token::Token;
 
@@ -39,7 +40,7 @@ impl<'a> Here<'a> {
 }
 
 impl Source<'_> {
-    ghost use Rattle.sl_parse_expr.specs.Following.{IsAt, MayPass, MustPass, Refuses};
+    ghost use Rattle.sl_parse_expr.specs.Following.{IsAt, MayOpen, MayPass, MustPass, Refuses, passes};
 
     /// No token goes on here.
     pub fn refused(&self, here: &Here<'_>) -> Unread
@@ -74,6 +75,34 @@ impl Source<'_> {
         }
     }
 
+    /// Whether the next token is this sign.
+    pub fn stands(&self, sign: &str, here: &Here<'_>) -> bool
+        ensures { result ≡ passes (is_text sign.now) (tokens_in self.now.bytes.now here.now.place.rest.now) }
+    {
+        begins_with(self.bytes, here.place.rest, sign)
+    }
+
+    /// Whether the next token is the end.
+    pub fn ends(&self, here: &Here<'_>) -> bool
+        ensures { result ≡ passes ends (tokens_in self.now.bytes.now here.now.place.rest.now) }
+    {
+        match here.place.rest.first() {
+            None => false,
+            Some(token) => is_end(self.bytes, *token),
+        }
+    }
+
+    /// The end, and what stands behind it.
+    pub fn end<'a>(&self, here: &Here<'a>) -> Result<(Token, Here<'a>), Unread>
+        requires { IsAt self.now here.now.place }
+        ensures { MustPass self.now ends plain here.now result }
+    {
+        match here.place.rest.split_first() {
+            Some((token, _)) if is_end(self.bytes, *token) => Ok((*token, here.advance())),
+            _ => Err(self.refused(here)),
+        }
+    }
+
     /// The next token, if it is a name, and what stands behind it.
     pub fn name<'a>(&self, here: &Here<'a>) -> Result<(Token, Here<'a>), Unread>
         requires { IsAt self.now here.now.place }
@@ -91,6 +120,61 @@ impl Source<'_> {
         ensures { MustPass self.now (is_text sign.now) plain here.now result }
     {
         match self.sign(sign, here) {
+            Some(found) => Ok(found),
+            None => Err(self.refused(here)),
+        }
+    }
+
+    /// The next token, if it is a number, and what stands behind it.
+    pub fn number<'a>(&self, here: &Here<'a>) -> Result<(Token, Here<'a>), Unread>
+        requires { IsAt self.now here.now.place }
+        ensures { MustPass self.now numbers plain here.now result }
+    {
+        match here.place.rest.split_first() {
+            Some((token, _)) if is_number(self.bytes, *token) => Ok((*token, here.advance())),
+            _ => Err(self.refused(here)),
+        }
+    }
+
+    /// The next token, if it is a string, and what stands behind it.
+    pub fn text<'a>(&self, here: &Here<'a>) -> Result<(Token, Here<'a>), Unread>
+        requires { IsAt self.now here.now.place }
+        ensures { MustPass self.now texts plain here.now result }
+    {
+        match here.place.rest.split_first() {
+            Some((token, _)) if is_text(self.bytes, *token) => Ok((*token, here.advance())),
+            _ => Err(self.refused(here)),
+        }
+    }
+
+    /// A mark that opens a form, of which so many are open around it, if it is the next token.
+    pub fn opening_if<'a>(
+        &self,
+        mark: &str,
+        around: usize,
+        here: &Here<'a>,
+    ) -> Option<(Token, Here<'a>)>
+        requires { IsAt self.now here.now.place }
+        ensures { MayOpen self.now (is_text mark.now) (opens (suc around)) here.now result }
+    {
+        let Some((opening, behind)) = self.sign(mark, here) else {
+            return None;
+        };
+        let deep = is_too_deep(around, 0);
+        Some((opening, behind.noting(deep, here.place.at, opening)))
+    }
+
+    /// A mark that opens a form, of which so many are open around it, and what stands behind it.
+    pub fn opening<'a>(
+        &self,
+        mark: &str,
+        around: usize,
+        here: &Here<'a>,
+    ) -> Result<(Token, Here<'a>), Unread>
+        requires { IsAt self.now here.now.place }
+        ensures { MustPass self.now (is_text mark.now) (opens (suc around)) here.now result }
+    {
+        match self.opening_if(mark, around, here) {
             Some(found) => Ok(found),
             None => Err(self.refused(here)),
         }

@@ -12,15 +12,15 @@ use Rattle.sl_token.specs.declared.token.Token.{Token}
 use Rattle.sl_tree.specs.View.{stmt_in}
 use Rattle.sl_tree.specs.declared.statements.StmtTree.{StmtTree}
 use Rattle.sl_tree.specs.declared.statements.StmtTree.TheVariants as stmt
-use Rattle.sl_tree.proofs.Views.{stmt_in-Empty, stmt_in-Break, stmt_in-Continue}
+use Rattle.sl_tree.proofs.Views.{stmt_in-Block, stmt_in-Empty, stmt_in-Break, stmt_in-Continue}
 use Rattle.sl_parse_expr.specs.Nestings.{nesting_in}
-use Rattle.sl_parse_expr.specs.Settling.{Settles, SettlesIn, opening_in}
+use Rattle.sl_parse_expr.specs.Settling.{Settles, SettlesIn, opening_in, stmts_in}
 use Rattle.sl_parse_expr.specs.declared.statements.Head.{Head}
 use Rattle.sl_parse_expr.specs.declared.statements.Opening.{Opening}
 use Rattle.sl_parse_expr.specs.declared.statements.Opening.TheVariants as opening
-use Rattle.sl_parse_expr.proofs.Blocks.{blocked_none, blocked_more, blocked_closed, blocked_stops}
-use Rattle.sl_parse_expr.proofs.Following.{follows_yes, follows_must, follows_end}
-use Rattle.sl_parse_expr.proofs.Settling.{settles_of, settles_err}
+use Rattle.sl_parse_expr.proofs.Blocks.{all_of, blocked_none, blocked_more, blocked_closed, blocked_err, settles_all}
+use Rattle.sl_parse_expr.proofs.Following.{follows_yes, follows_must, follows_end, read_as}
+use Rattle.sl_parse_expr.proofs.Settling.{settles_of, settles_err, settles_stop_as}
 use Rattle.sl_parse_expr.proofs.Stmts.{opened_settles, flat_settles, end_settles, decided_settles, body_settles, if_stops, if_alone, else_stops, if_else, while_stops, while_read, for_no_head, for_stops, for_read}
 use Rattle.sl_parse_expr.proofs.source.Source.+statements.Goals as goal
 
@@ -29,29 +29,58 @@ signed : (bytes : List ℕ) (token : Token) (found : Option Opening) (o other : 
     → sign_of lists.opening_text lists.openings (symbol (token_in bytes token)) ≡ Some (opening_in other)
 signed bytes token found o other e is same = sym e ∙ ap (option_map opening_in) is ∙ ap (λ o. Some (opening_in o)) same
 
-pub block-loop-end-init : goal.block-loop-end-init
-block-loop-end-init t c = blocked_none c.args.self.now (nesting_in c.args.around.now) c.args.here.now c.new-stmts.result c.new-stmts.ensures c.requires.at
-
-pub block-returns-in-Some : goal.block-returns-in-Some
-block-returns-in-Some t c =
-    blocked_closed c.args.self.now (nesting_in c.args.around.now) c.args.opening c.args.here.now c.loop-end.stmts c.loop-end.next c.in-Some.field-0-0 c.in-Some.end c.loop-end.invariant c.in-Some.ensures
-
-pub block-returns-in_err-stmt : goal.block-returns-in_err-stmt
-block-returns-in_err-stmt t c =
+pub block-returns-in_err-stmts : goal.block-returns-in_err-stmts
+block-returns-in_err-stmts t c =
     λ turns h.
     let source = c.args.self.now in
+    let bytes = source.bytes.now in
     let around = nesting_in c.args.around.now in
-    let stop = c.in_err-stmt.field-0.0 in
-    settles_err source (stmt_in source.bytes.now) (lists.block_in around (lists.stmt_in turns) (token_in source.bytes.now c.args.opening)) c.args.here.now c.from_residual.result stop c.from_residual.ensures.1
-    (blocked_stops source around c.args.opening c.args.here.now c.loop-end.stmts c.loop-end.next stop c.requires.at c.loop-end.invariant c.in_default.ensures
-    (λ turns h. subst (λ inside. Settles source (stmt_in source.bytes.now) (lists.stmt_in turns inside) c.loop-end.next (Err stop)) c.in_block-inside.ensures.nesting (c.in_err-stmt.ensures.read turns h)) turns h)
+    let make = tree.Block (token_in bytes c.args.opening) in
+    let stop = c.in_err-stmts.field-0.0 in
+    settles_err source (stmt_in bytes) (lists.block_in around (lists.stmt_in turns) (token_in bytes c.args.opening)) c.args.here.now c.from_residual.result stop c.from_residual.ensures.1
+    (settles_stop_as source (all_of bytes) (stmt_in bytes) make (stmts_in (in_block around) turns) c.args.here.now stop
+    (subst (λ inside. Settles source (all_of bytes) (stmts_in inside turns) c.args.here.now (Err stop)) c.in_block.ensures.nesting (c.in_err-stmts.ensures.turns turns h)))
 
-pub block-loop-end-preserved : goal.block-loop-end-preserved
-block-loop-end-preserved t c =
+pub block-returns : goal.block-returns
+block-returns t c =
+    λ turns h.
     let source = c.args.self.now in
-    blocked_more source (nesting_in c.args.around.now) c.args.here.now c.loop-end.stmts c.push.new.self c.loop-end.next c.in_ok-stmt.stmt c.in_ok-stmt.behind c.requires.at c.loop-end.invariant c.in_default.ensures
-    (λ turns h. subst (λ inside. Settles source (stmt_in source.bytes.now) (lists.stmt_in turns inside) c.loop-end.next (Ok (c.in_ok-stmt.stmt, c.in_ok-stmt.behind))) c.in_block-inside.ensures.nesting (c.in_ok-stmt.ensures.read turns h))
-    c.in_ok-stmt.ensures.on c.in_ok-push.ensures.ok
+    let bytes = source.bytes.now in
+    let around = nesting_in c.args.around.now in
+    let make = tree.Block (token_in bytes c.args.opening) in
+    let stmts = c.in_ok-stmts.stmts in
+    let end = c.in_ok-stmts.end in
+    read_as source (all_of bytes) (stmt_in bytes) make (stmts_in (in_block around) turns) c.args.here.now stmts (stmt.Block c.args.opening stmts) end
+    (subst (λ inside. Settles source (all_of bytes) (stmts_in inside turns) c.args.here.now (Ok (stmts, end))) c.in_block.ensures.nesting (c.in_ok-stmts.ensures.turns turns h))
+    (λ h k. sym (stmt_in-Block bytes c.args.opening stmts))
+
+pub stmts-loop-end-init : goal.stmts-loop-end-init
+stmts-loop-end-init t c = blocked_none c.args.self.now (nesting_in c.args.inside.now) c.args.here.now c.new-stmts.result c.new-stmts.ensures c.requires.at
+
+pub stmts-returns-in-Some-clause-turns : goal.stmts-returns-in-Some-clause-turns
+stmts-returns-in-Some-clause-turns t c =
+    blocked_closed c.args.self.now (nesting_in c.args.inside.now) c.args.here.now c.loop-end.stmts c.loop-end.next c.in-Some.field-0-0 c.in-Some.end c.loop-end.invariant c.in-Some.ensures
+
+pub stmts-returns-in-Some-clause-read : goal.stmts-returns-in-Some-clause-read
+stmts-returns-in-Some-clause-read t c =
+    settles_all c.args.self.now (nesting_in c.args.inside.now) c.args.here.now (Ok (c.loop-end.stmts, c.in-Some.end))
+    (blocked_closed c.args.self.now (nesting_in c.args.inside.now) c.args.here.now c.loop-end.stmts c.loop-end.next c.in-Some.field-0-0 c.in-Some.end c.loop-end.invariant c.in-Some.ensures)
+
+pub stmts-returns-in_err-stmt-clause-turns : goal.stmts-returns-in_err-stmt-clause-turns
+stmts-returns-in_err-stmt-clause-turns t c =
+    blocked_err c.args.self.now (nesting_in c.args.inside.now) c.args.here.now c.loop-end.stmts c.loop-end.next c.from_residual.result c.in_err-stmt.field-0.0 c.from_residual.ensures.1
+    c.requires.at c.loop-end.invariant c.in_default.ensures c.in_err-stmt.ensures.read
+
+pub stmts-returns-in_err-stmt-clause-read : goal.stmts-returns-in_err-stmt-clause-read
+stmts-returns-in_err-stmt-clause-read t c =
+    settles_all c.args.self.now (nesting_in c.args.inside.now) c.args.here.now c.from_residual.result
+    (blocked_err c.args.self.now (nesting_in c.args.inside.now) c.args.here.now c.loop-end.stmts c.loop-end.next c.from_residual.result c.in_err-stmt.field-0.0 c.from_residual.ensures.1
+    c.requires.at c.loop-end.invariant c.in_default.ensures c.in_err-stmt.ensures.read)
+
+pub stmts-loop-end-preserved : goal.stmts-loop-end-preserved
+stmts-loop-end-preserved t c =
+    blocked_more c.args.self.now (nesting_in c.args.inside.now) c.args.here.now c.loop-end.stmts c.push.new.self c.loop-end.next c.in_ok-stmt.stmt c.in_ok-stmt.behind c.requires.at c.loop-end.invariant c.in_default.ensures
+    c.in_ok-stmt.ensures.read c.in_ok-stmt.ensures.on c.in_ok-push.ensures.ok
 
 pub body-returns-in_err-stmt : goal.body-returns-in_err-stmt
 body-returns-in_err-stmt t c =

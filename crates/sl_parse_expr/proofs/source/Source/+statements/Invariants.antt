@@ -7,7 +7,10 @@ abbrev pub decreases-stmt : goal.decreases-stmt
 decreases-stmt l = 8 * (length l.self.now.tokens.now - l.here.now.place.at) + 2
 
 abbrev pub decreases-block : goal.decreases-block
-decreases-block l = 8 * (length l.self.now.tokens.now - l.here.now.place.at) + 3
+decreases-block l = 8 * (length l.self.now.tokens.now - l.here.now.place.at) + 4
+
+abbrev pub decreases-stmts : goal.decreases-stmts
+decreases-stmts l = 8 * (length l.self.now.tokens.now - l.here.now.place.at) + 3
 
 abbrev pub decreases-body : goal.decreases-body
 decreases-body l = 8 * (length l.self.now.tokens.now - l.here.now.place.at) + 3
@@ -22,8 +25,8 @@ abbrev pub decreases-counted : goal.decreases-counted
 decreases-counted l = 8 * (length l.self.now.tokens.now - l.here.now.place.at) + 4
 
 -- the statements so far stand in front of those that are left
-abbrev pub invariant-block-loop-end : goal.invariant-block-loop-end
-invariant-block-loop-end l = IsBlocked l.self (nesting_in l.around) l.here l.stmts l.next
+abbrev pub invariant-stmts-loop-end : goal.invariant-stmts-loop-end
+invariant-stmts-loop-end l = IsBlocked l.self (nesting_in l.inside) l.here l.stmts l.next
 
-abbrev pub decreases-block-loop-end : goal.decreases-block-loop-end
-decreases-block-loop-end l = length l.self.tokens.now - l.next.place.at
+abbrev pub decreases-stmts-loop-end : goal.decreases-stmts-loop-end
+decreases-stmts-loop-end l = length l.self.tokens.now - l.next.place.at
