@@ -1,6 +1,7 @@
 -- Which forms are small.
-use Rattle.std.proofs.Common.{◌≡◌, ◌∙◌, refl, sym, ap, ℕ, ◌+◌, ◌-◌, ◌*◌, ◌<◌, ◌≤◌, min, length, get_or, take, Bool, true, false, cond, List, [], ◌∷◌, map, Option, Some, arith}
+use Rattle.std.proofs.Common.{◌≡◌, ◌∙◌, refl, sym, ap, ℕ, ◌+◌, ◌-◌, ◌*◌, ◌<◌, ◌≤◌, min, length, get_or, take, Bool, true, false, cond, List, [], ◌∷◌, map, Option, Some, None, arith}
 use Rattle.std.specs.Prelude.{◌↔◌, IsTrue, not, ◌&&◌, nat_le, find}
+use Rattle.std.specs.Bool.{then_some}
 use Rattle.std.specs.Char.{digit_value, is_ascii_digit}
 use Rattle.std.specs.List.{list_all}
 use Rattle.std.specs.Option.{option_map}
@@ -91,9 +92,27 @@ at_most : (d value : ℕ) → value ≡ min d 4294967295 → nat_le value 214748
 at_most d value h = grind (arith, nat_tests)
 
 -- digits are a small number where their value is
-pub small_all : (text : List ℕ) (i value : ℕ) → length text ≤ i → list_all is_ascii_digit (take i text) ≡ true
+small_all : (text : List ℕ) (i value : ℕ) → length text ≤ i → list_all is_ascii_digit (take i text) ≡ true
     → value ≡ min (digits_value 10 (take i text)) 4294967295 → nat_le value 2147483647 ≡ is_small_number text
 small_all text i value past digits is =
     let all = take_all i text past in
     at_most (digits_value 10 text) value (is ∙ ap (λ ds. min (digits_value 10 ds) 4294967295) all)
     ∙ ap (λ b. b && nat_le (digits_value 10 text) 2147483647) (sym digits ∙ ap (list_all is_ascii_digit) all)
+
+-- a value that is small is that of the digits
+same_value : (d value : ℕ) → value ≡ min d 4294967295 → nat_le value 2147483647 ≡ true → value ≡ d
+same_value d value is small = grind (arith, nat_tests)
+
+chosen : (d value : ℕ) (b : Bool) → nat_le value 2147483647 ≡ b → value ≡ min d 4294967295
+    → then_some b value ≡ cond b (Some d) None
+chosen d value true small is = ap Some (same_value d value is small)
+chosen d value false small is = refl
+
+-- the value of digits where they are a small number
+pub value_all : (text : List ℕ) (i value : ℕ) → length text ≤ i → list_all is_ascii_digit (take i text) ≡ true
+    → value ≡ min (digits_value 10 (take i text)) 4294967295
+    → then_some (nat_le value 2147483647) value ≡ cond (is_small_number text) (Some (digits_value 10 text)) None
+value_all text i value past digits is =
+    chosen (digits_value 10 text) value (nat_le value 2147483647) refl
+    (is ∙ ap (λ ds. min (digits_value 10 ds) 4294967295) (take_all i text past))
+    ∙ ap (λ b. cond b (Some (digits_value 10 text)) None) (small_all text i value past digits is)

@@ -1,7 +1,8 @@
 //! Which declarations have only forms that are checked.
 
-ghost use Rattle.std.specs.Prelude.{◌≡◌, ℕ, List, not, find};
+ghost use Rattle.std.specs.Prelude.{◌≡◌, ℕ, List, not, find, Some, None, if◌then◌else◌};
 ghost use Rattle.std.specs.Option.{option_copied, option_map};
+ghost use Rattle.std.specs.Str.Parse.{digits_value};
 ghost use Rattle.def_tree.specs.TypeTree as types;
 ghost use Rattle.def_module.specs.Built as built;
 ghost use Rattle.sl_token.specs.View.{token_in};
@@ -78,7 +79,7 @@ fn is_small_expr(source: &[u8], expr: &ExprTree) -> bool
     ensures { result ≡ built.is_small_expr (expr_in source.now expr.now) }
 {
     match expr {
-        ExprTree::Number(token) => is_small_number(text_at(source, token.span)),
+        ExprTree::Number(token) => small_number(text_at(source, token.span)).is_some(),
         ExprTree::Truth(_, _) => true,
         ExprTree::Name(_, args) => args.is_empty(),
         ExprTree::Group(_, inner) => is_small_expr(source, inner.get()),
@@ -112,18 +113,18 @@ fn is_small_operator(operator: Operator) -> bool
 // The greatest int.
 const MAX_INT: u32 = 2147483647;
 
-// Whether a number has decimal digits alone, and is at most the greatest int.
-fn is_small_number(text: &[u8]) -> bool
-    ensures { result ≡ built.is_small_number text.now }
+/// The value of a number that has decimal digits alone and is at most the greatest int.
+pub fn small_number(text: &[u8]) -> Option<u32>
+    ensures { result ≡ (if built.is_small_number text.now then Some (digits_value 10 text.now) else None) }
 {
     let mut value: u32 = 0;
     for byte in text {
         if !byte.is_ascii_digit() {
-            return false;
+            return None;
         }
         value = value
             .saturating_mul(10)
             .saturating_add(u32::from(*byte - b'0'));
     }
-    value <= MAX_INT
+    (value <= MAX_INT).then_some(value)
 }

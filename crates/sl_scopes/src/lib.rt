@@ -13,8 +13,9 @@ mod source;
 mod statements;
 mod twice;
 
-pub use built::not_built;
+pub use built::{not_built, small_number};
 pub use first::decl_token;
+pub use source::text_at;
 pub use twice::declared_twice;
 
 #[cfg(test)]

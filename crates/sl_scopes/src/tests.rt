@@ -1,6 +1,6 @@
 //! What is told of trees that are built by hand.
 
-use crate::{decl_token, declared_twice, not_built};
+use crate::{decl_token, declared_twice, not_built, small_number};
 use sl_base::{List, Place};
 use sl_token::{Kind, Span, Token};
 use sl_tree::{
@@ -110,5 +110,13 @@ fn a_scope_may_have_many_names(rt: HostRuntime) -> Result<(), Fail> {
         }),
     )?;
     assert_eq!(rt; declared_twice(alloc, &source, &tree)?, Some(token(6, 12)));
+    Ok(())
+}
+
+#[test]
+fn a_number_of_decimal_digits_is_small_up_to_the_greatest_int(rt: HostRuntime) -> Result<(), Fail> {
+    assert_eq!(rt; small_number(b"2147483647"), Some(2147483647));
+    assert_eq!(rt; small_number(b"2147483648"), None);
+    assert_eq!(rt; small_number(b"0x1"), None);
     Ok(())
 }

@@ -1,7 +1,7 @@
 use Rattle.std.proofs.Common.{◌+◌, ◌∙◌, ap, get_or, min, sym}
 use Rattle.std.proofs.lemmas.Str.{digit_value_digit}
-use Rattle.sl_scopes.proofs.Small.{digits_more, small_all, value_more}
-use Rattle.sl_scopes.proofs.built.is_small_number.Goals as goal
+use Rattle.sl_scopes.proofs.Small.{digits_more, value_all, value_more}
+use Rattle.sl_scopes.proofs.built.small_number.Goals as goal
 
 pub loop-byte-preserved : goal.loop-byte-preserved
 loop-byte-preserved c =
@@ -17,4 +17,6 @@ loop-byte-preserved c =
 
 pub returns : goal.returns
 returns c =
-    small_all c.args.text.now c.loop-byte.byte-index c.loop-byte.value c.loop-byte-test.false c.loop-byte.invariant.digits c.loop-byte.invariant.value
+    let digits = c.loop-byte.invariant in
+    c.then_some.ensures
+    ∙ value_all c.args.text.now c.loop-byte.byte-index c.loop-byte.value c.loop-byte-test.false digits.digits digits.value

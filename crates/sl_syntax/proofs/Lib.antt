@@ -1,0 +1,2 @@
+-- What each stage tells of a text.
+pub mod Stages
