@@ -1,5 +1,7 @@
 -- The bodies of keys keep to what is asked of rules.
-use Rattle.std.proofs.Common.{◌≡◌, ◌∙◌, refl, sym, ap, subst, inl, inr, ℕ, zero, suc, List, [], ◌∷◌, map, Option, Some, None}
+use Rattle.std.proofs.Common.{◌≡◌, ◌∙◌, refl, sym, ap, subst, inl, inr, ℕ, zero, suc, List, [], ◌∷◌, Option, Some, None}
+use Rattle.std.specs.List.{cons_option}
+use Rattle.sl_key.specs.Names.{decls_in, key_of, keys_of as keys_declared}
 use Rattle.sl_key.specs.Order.{key_cmp, module_of}
 use Rattle.sl_key.specs.Ordered.{key_apart, key_total}
 use Rattle.sl_key.specs.declared.answer.Answer.{Answer}
@@ -10,9 +12,8 @@ use Rattle.sl_key.specs.declared.flow.Flow.{Flow}
 use Rattle.sl_key.specs.declared.flow.Flow.TheVariants.{Needs, Stop, Value as Given}
 use Rattle.sl_key.specs.declared.key.Key.{Key}
 use Rattle.sl_key.specs.declared.key.Key.TheVariants.{Syntax, Imports, Alias, Const}
-use Rattle.sl_decl.specs.declared.declaration.Declaration.{Declaration}
-use Rattle.sl_decl.specs.declared.declaration.Declaration.TheVariants as declaration
-use Rattle.sl_decl.specs.declared.declaration.Tree.{Tree}
+use Rattle.def_module.specs.DeclTree as tree
+use Rattle.def_module.specs.DeclTree.{DeclTree}
 use Rattle.def_query.specs.Keys.{IsIn}
 use Rattle.def_query.specs.Lawful.{IsLawful}
 use Rattle.def_query.specs.Map.{get}
@@ -21,9 +22,7 @@ use Rattle.def_query.specs.declared.step.Step.TheVariants as step
 use Rattle.def_query.proofs.Maps.{get_cases}
 use Rattle.def_sources.specs.Sources.{Sources}
 use Rattle.def_check.specs.Body.{body_of, declarations_in, keys_of, meaning_of}
-use Rattle.sl_key.specs.Names.{key_of}
-use Rattle.def_check.specs.Parts.{Facts, finished, tree_held, tree_of, used_by}
-use Rattle.def_check.specs.Parts.{and_then}
+use Rattle.def_check.specs.Parts.{Facts, and_then, finished, module_held, module_text, used_by}
 use Rattle.def_check.specs.Syntax.{syntax_of}
 use Rattle.def_check.proofs.Bodies.{steady_alias, steady_const, steady_imports}
 use Rattle.def_check.proofs.Needed.{NeedsOnly, only_alias_body, only_const_body, only_imports}
@@ -43,10 +42,12 @@ module _ (part : Facts → Flow Held) (steady : IsSteady part) where
   done_at m n a (Stop b) h e w = ap finished (steady.stops m n b h w) ∙ e
   done_at m n a (Given v) h e w = ap finished (steady.given m n v h w) ∙ e
 
-  done_stays : (m n : Facts) (a : Answer) → finished (part m) ≡ step.Done a → IsAmong m n → finished (part n) ≡ step.Done a
+  done_stays : (m n : Facts) (a : Answer) → finished (part m) ≡ step.Done a → IsAmong m n
+      → finished (part n) ≡ step.Done a
   done_stays m n a e w = done_at m n a (part m) refl e w
 
-  needs_stay : (m n : Facts) (y : Key) → finished (part m) ≡ step.Needs y → IsAmong m n → Lacks n y → finished (part n) ≡ step.Needs y
+  needs_stay : (m n : Facts) (y : Key) → finished (part m) ≡ step.Needs y → IsAmong m n → Lacks n y
+      → finished (part n) ≡ step.Needs y
   needs_stay m n y e w l = ap finished (steady.needs m n y (needs_of (part m) y e) w l)
 
   needs_lacking : (m : Facts) (y : Key) → finished (part m) ≡ step.Needs y → Lacks m y
@@ -58,29 +59,33 @@ module _ (part : Facts → Flow Held) (steady : IsSteady part) where
 
 -- ---- lists of keys
 
-is_in_map : (f : Declaration → Key) (d : Declaration) (ds : List Declaration) → IsIn d ds → IsIn (f d) (map f ds)
-is_in_map f d [] i = elim i [ ]
-is_in_map f d (x ∷ ds) (inl e) = inl (ap f e)
-is_in_map f d (x ∷ ds) (inr i) = inr (is_in_map f d ds i)
+of_option : (name : List ℕ) (o : Option Key) (ks : List Key)
+    → ((k : Key) → o ≡ Some k → module_of k ≡ name) → ((k : Key) → IsIn k ks → module_of k ≡ name)
+    → (k : Key) → IsIn k (cons_option o ks) → module_of k ≡ name
+of_option name None ks one others k i = others k i
+of_option name (Some x) ks one others k (inl e) = ap module_of e ∙ one x refl
+of_option name (Some x) ks one others k (inr i) = others k i
 
-key_module : (name : List ℕ) (d : Declaration) → module_of (key_of name d) ≡ name
-key_module name (declaration.Alias alias) = refl
-key_module name (declaration.Const constant) = refl
+key_module : (name : List ℕ) (d : DeclTree) (k : Key) → key_of name d ≡ Some k → module_of k ≡ name
+key_module name (tree.Alias alias) k e = cc
+key_module name (tree.Const constant) k e = cc
+key_module name _ k e = absurd (cc)
 
-mapped_module : (name : List ℕ) (ds : List Declaration) (k : Key) → IsIn k (map (key_of name) ds) → module_of k ≡ name
-mapped_module name [] k i = elim i [ ]
-mapped_module name (d ∷ ds) k (inl e) = ap module_of e ∙ key_module name d
-mapped_module name (d ∷ ds) k (inr i) = mapped_module name ds k i
+declared_module : (name : List ℕ) (ds : List DeclTree) (k : Key) → IsIn k (keys_declared name ds) → module_of k ≡ name
+declared_module name [] k i = elim i [ ]
+declared_module name (d ∷ ds) k i =
+    of_option name (key_of name d) (keys_declared name ds) (key_module name d) (declared_module name ds) k i
 
 module _ (sources : Sources) where
   -- the keys of a module are of this module
   module_is : (name : List ℕ) (k : Key) → IsIn k (keys_of sources name) → module_of k ≡ name
   module_is name k (inl e) = ap module_of e
   module_is name k (inr (inl e)) = ap module_of e
-  module_is name k (inr (inr i)) = mapped_module name _ k i
+  module_is name k (inr (inr i)) = declared_module name (declarations_in (syntax_of sources name)) k i
 
   -- a module's syntax settles with one answer
-  syntax_settles : (name : List ℕ) (a : Answer) → Settles key_cmp (meaning_of sources) (Syntax name) a → syntax_of sources name ≡ a
+  syntax_settles : (name : List ℕ) (a : Answer) → Settles key_cmp (meaning_of sources) (Syntax name) a
+      → syntax_of sources name ≡ a
   syntax_settles name a s = go s.round s.settled
     where
       go : (n : ℕ) → Settled key_cmp (meaning_of sources) n (Syntax name) a → syntax_of sources name ≡ a
@@ -99,24 +104,26 @@ module _ (sources : Sources) where
         | inr e ↦ given_settles x k m a given.2 e
       ]
 
-  held_tree : (name : List ℕ) (o : Option Answer) (tree : Tree)
-      → and_then (used_by (Syntax name) o) (tree_held (Syntax name)) ≡ Given tree → o ≡ Some (Good (held.Syntax tree))
-  held_tree name None tree e = absurd (cc)
-  held_tree name (Some (Bad d)) tree e = absurd (cc)
-  held_tree name (Some (Spoiled q)) tree e = absurd (cc)
-  held_tree name (Some (Circular c)) tree e = absurd (cc)
-  held_tree name (Some (Good (held.Syntax other))) tree e = let same : other ≡ tree = cc in ap (λ t. Some (Good (held.Syntax t))) same
-  held_tree name (Some (Good (held.Imports v))) tree e = absurd (cc)
-  held_tree name (Some (Good (held.Alias v))) tree e = absurd (cc)
-  held_tree name (Some (Good (held.Const v))) tree e = absurd (cc)
+  held_text : (name : List ℕ) (o : Option Answer) (text : List ℕ)
+      → and_then (used_by (Syntax name) o) (module_held (Syntax name)) ≡ Given text → o ≡ Some (Good (held.Syntax text))
+  held_text name None text e = absurd (cc)
+  held_text name (Some (Bad d)) text e = absurd (cc)
+  held_text name (Some (Spoiled q)) text e = absurd (cc)
+  held_text name (Some (Circular c)) text e = absurd (cc)
+  held_text name (Some (Good (held.Syntax other))) text e =
+      let same : other ≡ text = cc in ap (λ t. Some (Good (held.Syntax t))) same
+  held_text name (Some (Good (held.Imports v))) text e = absurd (cc)
+  held_text name (Some (Good (held.Alias v))) text e = absurd (cc)
+  held_text name (Some (Good (held.Const v))) text e = absurd (cc)
 
-  module _ (x : Key) (m : Facts) (given : IsGiven key_cmp (meaning_of sources) (Settles key_cmp (meaning_of sources)) x m) (name : List ℕ) where
-    declared : (tree : Tree) (d : Declaration) → tree_of m name ≡ Given tree → IsIn d tree.declarations → IsIn (key_of name d) (keys_of sources name)
-    declared tree d e i =
-        let had = held_tree name (get key_cmp m (Syntax name)) tree e in
+  module _ (x : Key) (m : Facts)
+      (given : IsGiven key_cmp (meaning_of sources) (Settles key_cmp (meaning_of sources)) x m) (name : List ℕ) where
+    declared : (text : List ℕ) (k : Key) → module_text m name ≡ Given text → IsIn k (keys_declared name (decls_in text))
+        → IsIn k (keys_of sources name)
+    declared text k e i =
+        let had = held_text name (get key_cmp m (Syntax name)) text e in
         let is = syntax_settles name _ (given_settles x (Syntax name) m _ given had) in
-        inr (inr (is_in_map (key_of name) d (declarations_in (syntax_of sources name))
-        (subst (λ a. IsIn d (declarations_in a)) (sym is) i)))
+        inr (inr (subst (λ a. IsIn k (keys_declared name (declarations_in a))) (sym is) i))
 
   needed : (P : Key → Type 0) (flow : Flow Held) (y : Key) → NeedsOnly P flow → finished flow ≡ step.Needs y → P y
   needed P flow y only e = subst (NeedsOnly P) (needs_of flow y e) only
@@ -128,15 +135,16 @@ module _ (sources : Sources) where
   within (Syntax name) m y given e = absurd (cc)
   within (Imports name) m y given e =
       needed (λ k. IsIn k (keys_of sources name)) _ y
-      (only_imports (λ k. IsIn k (keys_of sources name)) m name (inl refl) (inr (inl refl)) (declared (Imports name) m given name)) e
+      (only_imports (λ k. IsIn k (keys_of sources name)) m name (inl refl) (inr (inl refl))
+      (declared (Imports name) m given name)) e
   within (Alias path) m y given e =
       needed (λ k. IsIn k (keys_of sources path.module)) _ y
       (only_alias_body (λ k. IsIn k (keys_of sources path.module)) m path.module (inl refl) (inr (inl refl))
-      (declared (Alias path) m given path.module) path refl) e
+      (declared (Alias path) m given path.module) path.parts) e
   within (Const path) m y given e =
       needed (λ k. IsIn k (keys_of sources path.module)) _ y
       (only_const_body (λ k. IsIn k (keys_of sources path.module)) m path.module (inl refl) (inr (inl refl))
-      (declared (Const path) m given path.module) path refl) e
+      (declared (Const path) m given path.module) path.parts) e
 
   in_bound : (k x : Key) → IsIn x (k ∷ keys_of sources (module_of k)) → module_of x ≡ module_of k
   in_bound k x (inl e) = ap module_of e
@@ -147,13 +155,15 @@ module _ (sources : Sources) where
   bound_closed k x y i d =
       inr (subst (λ name. IsIn y (keys_of sources name)) (in_bound k x i) (within x d.earlier y d.given d.needs))
 
-  done_of : (k : Key) (m n : Facts) (a : Answer) → body_of sources k m ≡ step.Done a → IsAmong m n → body_of sources k n ≡ step.Done a
+  done_of : (k : Key) (m n : Facts) (a : Answer) → body_of sources k m ≡ step.Done a → IsAmong m n
+      → body_of sources k n ≡ step.Done a
   done_of (Syntax name) m n a e w = e
   done_of (Imports name) m n a e w = done_stays _ (steady_imports name) m n a e w
   done_of (Alias path) m n a e w = done_stays _ (steady_alias path) m n a e w
   done_of (Const path) m n a e w = done_stays _ (steady_const path) m n a e w
 
-  needs_in : (k : Key) (m n : Facts) (y : Key) → body_of sources k m ≡ step.Needs y → IsAmong m n → Lacks n y → body_of sources k n ≡ step.Needs y
+  needs_in : (k : Key) (m n : Facts) (y : Key) → body_of sources k m ≡ step.Needs y → IsAmong m n → Lacks n y
+      → body_of sources k n ≡ step.Needs y
   needs_in (Syntax name) m n y e w l = e
   needs_in (Imports name) m n y e w l = needs_stay _ (steady_imports name) m n y e w l
   needs_in (Alias path) m n y e w l = needs_stay _ (steady_alias path) m n y e w l

@@ -35,7 +35,9 @@ place_total : IsTotalOrder place_cmp
 place_total = then_total (on_total (λ place. place.line) nat_cmp_total) (on_total (λ place. place.column) nat_cmp_total)
 
 site_total : IsTotalOrder site_cmp
-site_total = then_total (on_total rank_of nat_cmp_total) (then_total (on_texts site_module) (on_total site_place place_total))
+site_total =
+    then_total (on_total rank_of nat_cmp_total)
+    (then_total (on_texts site_module) (on_total site_place place_total))
 
 diag_total : IsTotalOrder diag_cmp
 diag_total =
@@ -74,7 +76,8 @@ same_line x y h =
     let others = both_equal _ _ first.1 in
     let site : x.site ≡ y.site = site_apart _ _ first.0 in
     let code : x.code ≡ y.code = nat_cmp-IsAntisymmetric _ _ others.0 in
-    let text : message x.code x.args ≡ message y.code y.args = slice_cmp-IsAntisymmetric nat_cmp-IsAntisymmetric _ _ others.1 in
+    let text : message x.code x.args ≡ message y.code y.args =
+    slice_cmp-IsAntisymmetric nat_cmp-IsAntisymmetric _ _ others.1 in
     ap (λ s. site_text s ++ (codes ": error E" ++ (decimal x.code ++ (codes ": " ++ message x.code x.args)))) site
     ∙ ap (λ c. site_text y.site ++ (codes ": error E" ++ (decimal c ++ (codes ": " ++ message x.code x.args)))) code
     ∙ ap (λ t. site_text y.site ++ (codes ": error E" ++ (decimal y.code ++ (codes ": " ++ t)))) text
@@ -106,7 +109,8 @@ behind x y (z ∷ ys) all (inl e) = ap (diag_cmp x) e ∙ all.0
 behind x y (z ∷ ys) all (inr i) = behind x y ys all.1 i
 
 -- what the first of a rising list compares equal to is the first of the other
-first_by : (x y : Diag) (xs ys : List Diag) → IsRising (x ∷ xs) → IsRising (y ∷ ys) → (z : Diag) → diag_cmp x z ≡ Equal → IsIn z (y ∷ ys)
+first_by : (x y : Diag) (xs ys : List Diag) → IsRising (x ∷ xs) → IsRising (y ∷ ys)
+    → (z : Diag) → diag_cmp x z ≡ Equal → IsIn z (y ∷ ys)
     → (w : Diag) → diag_cmp y w ≡ Equal → IsIn w (x ∷ xs) → diag_cmp x y ≡ Equal
 first_by x y xs ys rx ry z xz (inl zy) w yw wi = subst (λ v. diag_cmp x v ≡ Equal) zy xz
 first_by x y xs ys rx ry z xz (inr zi) w yw (inl wx) = turned_equal y x (subst (λ v. diag_cmp y v ≡ Equal) wx yw)
@@ -125,12 +129,14 @@ rest_by x y v xs ys rx xy vi w vw (inl wy) =
     let vy = subst (λ u. diag_cmp v u ≡ Equal) wy vw in
     absurd (clash x y (less_equal x v y xv vy) xy)
 
-matched_rest : (x y : Diag) (xs ys : List Diag) → IsRising (x ∷ xs) → diag_cmp x y ≡ Equal → IsMatched (x ∷ xs) (y ∷ ys) → IsMatched xs ys
+matched_rest : (x y : Diag) (xs ys : List Diag) → IsRising (x ∷ xs) → diag_cmp x y ≡ Equal
+    → IsMatched (x ∷ xs) (y ∷ ys) → IsMatched xs ys
 matched_rest x y xs ys rx xy m v vi =
     let w = m v (inr vi) in
     (w.0, w.1, rest_by x y v xs ys rx xy vi w.0 w.1 w.2)
 
-same_lines : (xs ys : List Diag) → IsRising xs → IsRising ys → IsMatched xs ys → IsMatched ys xs → map diagnostic_text xs ≡ map diagnostic_text ys
+same_lines : (xs ys : List Diag) → IsRising xs → IsRising ys → IsMatched xs ys → IsMatched ys xs
+    → map diagnostic_text xs ≡ map diagnostic_text ys
 same_lines [] [] rx ry m n = refl
 same_lines [] (y ∷ ys) rx ry m n = absurd (n y (inl refl)).2
 same_lines (x ∷ xs) [] rx ry m n = absurd (m x (inl refl)).2
@@ -138,7 +144,8 @@ same_lines (x ∷ xs) (y ∷ ys) rx ry m n =
     let z = m x (inl refl) in
     let w = n y (inl refl) in
     let xy = first_by x y xs ys rx ry z.0 z.1 z.2 w.0 w.1 w.2 in
-    let rest = same_lines xs ys rx.1 ry.1 (matched_rest x y xs ys rx xy m) (matched_rest y x ys xs ry (turned_equal x y xy) n) in
+    let rest = same_lines xs ys rx.1 ry.1 (matched_rest x y xs ys rx xy m)
+    (matched_rest y x ys xs ry (turned_equal x y xy) n) in
     ap (λ line. line ∷ map diagnostic_text xs) (same_line x y xy) ∙ ap (λ lines. diagnostic_text y ∷ lines) rest
 
 matched : (all xs ys : List Diag) → IsSortedOnce all xs → IsSortedOnce all ys → IsMatched xs ys
@@ -154,7 +161,8 @@ same_replies all (Failed xs) (Failed ys) h k =
 -- two functions that tell the answer of each key are the same
 pub same_answers : (sources : Sources) (f g : Key → Answer) → TellsAnswers sources f → TellsAnswers sources g → f ≡ g
 same_answers sources f g h k =
-    λ i key. one_answer key_cmp key_total (meaning_of sources) (bodies_lawful sources) key (f key) (g key) (h key) (k key) i
+    λ i key. one_answer key_cmp key_total (meaning_of sources) (bodies_lawful sources) key
+    (f key) (g key) (h key) (k key) i
 
 pub one_reply : OneReply
 one_reply sources request one other h k =

@@ -83,7 +83,8 @@ used_needs k y m n e l =
     let same = (need_is k y (get key_cmp m k) e).1 in
     ap (used_by k) (ap (get key_cmp n) same ∙ l) ∙ ap Needs same
 
-used_circles : (k y : Key) (m : Facts) (c : List Key) → used m k ≡ Needs y → used ((y, Circular c) ∷ m) k ≡ Stop (Circular c)
+used_circles : (k y : Key) (m : Facts) (c : List Key) → used m k ≡ Needs y
+    → used ((y, Circular c) ∷ m) k ≡ Stop (Circular c)
 used_circles k y m c e =
     let same = (need_is k y (get key_cmp m k) e).1 in
     ap (used_by k) (ap (get key_cmp ((y, Circular c) ∷ m)) same ∙ get_here key_cmp key_total key_apart y (Circular c) m)

@@ -15,7 +15,7 @@ use Rattle.sl_key.specs.declared.key.Key.TheVariants as key
 use Rattle.sl_key.specs.declared.path.DeclPath.{DeclPath}
 use Rattle.sl_key.specs.declared.value.Ty.{Ty}
 use Rattle.sl_key.specs.declared.value.Value.{Value}
-use Rattle.sl_decl.specs.declared.declaration.Tree.{Tree}
+use Rattle.def_token.specs.Lexical as lexical
 use Rattle.def_query.specs.Map.{get}
 use Rattle.def_query.specs.declared.step.Step.{Step}
 use Rattle.def_query.specs.declared.step.Step.TheVariants as step
@@ -27,6 +27,14 @@ Facts = List (Key × Answer)
 -- a diagnostic at a place of a module
 abbrev pub diagnostic : List ℕ → Place → ℕ → List (List ℕ) → Diag
 diagnostic name at code args = record { site = Source name at; code = code; args = args }
+
+-- the place of a token
+abbrev pub place_of : lexical.Token → Place
+place_of token = record { line = token.place.line; column = token.place.column }
+
+-- a diagnostic at a token of a module
+abbrev pub at_token : List ℕ → lexical.Token → ℕ → List (List ℕ) → Diag
+at_token name token code args = diagnostic name (place_of token) code args
 
 -- a part, and then the next one, which is read where the first has a value
 abbrev pub and_then : {A B : Type 0} → Flow A → (A → Flow B) → Flow B
@@ -52,10 +60,11 @@ used_by key (Some (Circular cycle)) = Stop (Circular cycle)
 abbrev pub used : Facts → Key → Flow Held
 used facts key = used_by key (get key_cmp facts key)
 
--- The tree that a value holds. No key has the value of another kind; where answers say so, the key is at fault.
-abbrev pub tree_held : Key → Held → Flow Tree
-tree_held key (held.Syntax tree) = Given tree
-tree_held key _ = Stop (Spoiled key)
+-- The text of a module that a value holds. No key has the value of another kind; where answers say so, the key is at
+-- fault.
+abbrev pub module_held : Key → Held → Flow (List ℕ)
+module_held key (held.Syntax text) = Given text
+module_held key _ = Stop (Spoiled key)
 
 -- the modules that a value holds
 abbrev pub modules_held : Key → Held → Flow (List (List ℕ))
@@ -72,9 +81,9 @@ abbrev pub value_held : Key → Held → Flow Value
 value_held key (held.Const value) = Given value
 value_held key _ = Stop (Spoiled key)
 
--- the tree of a module
-abbrev pub tree_of : Facts → List ℕ → Flow Tree
-tree_of facts name = and_then (used facts (key.Syntax name)) (tree_held (key.Syntax name))
+-- the text of a module, of which nothing is told
+abbrev pub module_text : Facts → List ℕ → Flow (List ℕ)
+module_text facts name = and_then (used facts (key.Syntax name)) (module_held (key.Syntax name))
 
 -- the modules that a module sees
 abbrev pub modules_of : Facts → List ℕ → Flow (List (List ℕ))

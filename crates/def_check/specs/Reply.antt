@@ -2,7 +2,7 @@
 use Rattle.std.specs.Prelude.{◌≡◌, ◌↔◌, ℕ, List, [], ◌∷◌, ◌++◌, map, Option, Some, None}
 use Rattle.std.specs.Cmp.Lexicographic.{slice_cmp}
 use Rattle.std.specs.List.{AllByRecursion, flat_map}
-use Rattle.std.specs.Option.{option_map_or}
+use Rattle.std.specs.Option.{option_and_then, option_map_or}
 use Rattle.std.specs.Ordering.{nat_cmp, on, then_cmp}
 use Rattle.std.specs.declared.cmp.Ordering.{Ordering}
 use Rattle.std.specs.declared.cmp.Ordering.TheVariants.{Less, Equal}
@@ -10,8 +10,8 @@ use Rattle.sl_base.specs.declared.diag.Diag.{Diag}
 use Rattle.sl_base.specs.declared.diag.Site.{Site}
 use Rattle.sl_base.specs.declared.diag.Site.TheVariants.{Request as Whole, Source}
 use Rattle.sl_base.specs.declared.place.Place.{Place}
+use Rattle.sl_key.specs.Names.{declared_at, name_of}
 use Rattle.sl_key.specs.Order.{key_cmp, module_of, parts_of}
-use Rattle.sl_key.specs.Table.{place_of}
 use Rattle.sl_key.specs.declared.answer.Answer.{Answer}
 use Rattle.sl_key.specs.declared.answer.Answer.TheVariants.{Good, Bad, Spoiled, Circular}
 use Rattle.sl_key.specs.declared.key.Key.{Key}
@@ -22,7 +22,6 @@ use Rattle.sl_key.specs.declared.request.Reply.TheVariants.{Made, Failed}
 use Rattle.sl_key.specs.declared.request.Request.{Request}
 use Rattle.sl_key.specs.declared.request.Request.TheVariants.{Make}
 use Rattle.sl_key.specs.declared.request.Term.TheVariants.{Load}
-use Rattle.sl_decl.specs.declared.declaration.Tree.{Tree}
 use Rattle.sl_io.specs.Root.{bytes_of}
 use Rattle.def_query.specs.Answer.{Answers}
 use Rattle.def_query.specs.Keys.{IsIn, Reaches}
@@ -30,8 +29,7 @@ use Rattle.def_query.specs.Settles.{Depends}
 use Rattle.def_slang.specs.Diagnostic.{circular, message}
 use Rattle.def_sources.specs.Sources.{Sources}
 use Rattle.def_check.specs.Body.{declarations_in, meaning_of}
-use Rattle.sl_key.specs.Names.{declared_at}
-use Rattle.def_check.specs.Parts.{diagnostic}
+use Rattle.def_check.specs.Parts.{diagnostic, place_of}
 use Rattle.def_check.specs.Roots.{asked_for, roots_of}
 use Rattle.def_check.specs.Syntax.{first_place}
 
@@ -43,8 +41,8 @@ module _ (sources : Sources) (answer : Key → Answer) where
   -- the place of the name of a key's declaration; a module's own key stands at the module's first place
   abbrev pub key_place : Key → Place
   key_place key =
-      let tree : Tree = record { declarations = declarations_in (answer (Syntax (module_of key))) } in
-      option_map_or place_of (declared_at tree (parts_of key)) first_place
+      let decls = declarations_in (answer (Syntax (module_of key))) in
+      option_map_or place_of (option_and_then name_of (declared_at decls (parts_of key))) first_place
 
   -- a cycle is told at its least key
   abbrev pub cycle_told : List Key → List Diag

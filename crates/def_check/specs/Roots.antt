@@ -1,6 +1,7 @@
 -- What a request asks, where this function tells the answer of each key.
-use Rattle.std.specs.Prelude.{ℕ, List, [], ◌∷◌, ◌++◌, map, Option, Some, None}
+use Rattle.std.specs.Prelude.{ℕ, List, [], ◌∷◌, ◌++◌, Option, Some, None}
 use Rattle.std.specs.List.{flat_map}
+use Rattle.sl_key.specs.Names.{decls_in, keys_of}
 use Rattle.sl_key.specs.Order.{module_of}
 use Rattle.sl_key.specs.declared.answer.Answer.{Answer}
 use Rattle.sl_key.specs.declared.answer.Answer.TheVariants.{Good, Bad, Spoiled, Circular}
@@ -12,12 +13,11 @@ use Rattle.sl_key.specs.declared.request.Request.TheVariants.{Make}
 use Rattle.sl_key.specs.declared.request.Term.TheVariants.{Load}
 use Rattle.sl_io.specs.Root.{bytes_of}
 use Rattle.def_sources.specs.Sources.{Sources}
-use Rattle.sl_key.specs.Names.{key_of}
 
 module _ (sources : Sources) (answer : Key → Answer) where
   -- behind a module's syntax its imports are asked, and the key of each declaration in order
   abbrev pub behind_syntax : List ℕ → Answer → List Key
-  behind_syntax name (Good (held.Syntax tree)) = Imports name ∷ map (key_of name) tree.declarations
+  behind_syntax name (Good (held.Syntax text)) = Imports name ∷ keys_of name (decls_in text)
   behind_syntax name _ = []
 
   -- the keys that are asked for a module with these bytes, and none for an absent module

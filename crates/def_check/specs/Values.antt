@@ -7,8 +7,9 @@ use Rattle.sl_key.specs.declared.value.Ty.{Ty}
 use Rattle.sl_key.specs.declared.value.Ty.TheVariants as type
 use Rattle.sl_key.specs.declared.value.Value.{Value}
 use Rattle.sl_key.specs.declared.value.Value.TheVariants.{Bool, Int, Uint}
-use Rattle.sl_decl.specs.declared.expression.Operator.{Operator}
-use Rattle.sl_decl.specs.declared.expression.Operator.TheVariants.{Add, Subtract, Multiply}
+use Rattle.sl_key.specs.declared.value.Arithmetic.{Arithmetic}
+use Rattle.sl_key.specs.declared.value.Arithmetic.TheVariants.{Add, Subtract, Multiply}
+use Rattle.def_tree.specs.Operator as written
 
 -- how a type is told
 abbrev pub text_of : Ty → List ℕ
@@ -36,20 +37,33 @@ converted type.Uint (Int number) = Some (Uint (cast_unsigned width number))
 converted type.Uint (Uint number) = Some (Uint number)
 converted _ _ = None
 
+-- the operator on integers that is written, if it is built
+abbrev pub arithmetic_of : written.Operator → Option Arithmetic
+arithmetic_of written.Add = Some Add
+arithmetic_of written.Subtract = Some Subtract
+arithmetic_of written.Multiply = Some Multiply
+arithmetic_of _ = None
+
+-- the mark of an operator
+abbrev pub mark_of : Arithmetic → List ℕ
+mark_of Add = codes "+"
+mark_of Subtract = codes "-"
+mark_of Multiply = codes "*"
+
 -- an operator on ints: what is left of the result in the type's width
-abbrev pub int_result : Width → Operator → ℤ → ℤ → ℤ
+abbrev pub int_result : Width → Arithmetic → ℤ → ℤ → ℤ
 int_result w Add x y = int_wrapping_add w x y
 int_result w Subtract x y = int_wrapping_sub w x y
 int_result w Multiply x y = int_wrapping_mul w x y
 
 -- an operator on uints: what is left of the result in the type's width
-abbrev pub uint_result : Width → Operator → ℕ → ℕ → ℕ
+abbrev pub uint_result : Width → Arithmetic → ℕ → ℕ → ℕ
 uint_result w Add x y = (x + y) % 2 ^ bits w
 uint_result w Subtract x y = (x + (2 ^ bits w - y)) % 2 ^ bits w
 uint_result w Multiply x y = (x * y) % 2 ^ bits w
 
 -- An operator on two values. It takes integers; with a uint on one side both become uint.
-abbrev pub result_of : Operator → Value → Value → Option Value
+abbrev pub result_of : Arithmetic → Value → Value → Option Value
 result_of operator (Int x) (Int y) = Some (Int (int_result width operator x y))
 result_of operator (Int x) (Uint y) = Some (Uint (uint_result width operator (cast_unsigned width x) y))
 result_of operator (Uint x) (Int y) = Some (Uint (uint_result width operator x (cast_unsigned width y)))

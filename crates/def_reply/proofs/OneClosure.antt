@@ -34,7 +34,8 @@ abbrev AreIn : List Key → List Key → Type 0
 AreIn xs ys = (x : Key) → IsIn x xs → IsIn x ys
 
 -- rising lists of the same keys begin with the same one
-same_first : (x y : Key) (xs ys : List Key) → HasRisingKeys (x ∷ xs) → HasRisingKeys (y ∷ ys) → IsIn x (y ∷ ys) → IsIn y (x ∷ xs) → x ≡ y
+same_first : (x y : Key) (xs ys : List Key) → HasRisingKeys (x ∷ xs) → HasRisingKeys (y ∷ ys)
+    → IsIn x (y ∷ ys) → IsIn y (x ∷ xs) → x ≡ y
 same_first x y xs ys rx ry (inl e) j = e
 same_first x y xs ys rx ry (inr i) (inl e) = sym e
 same_first x y xs ys rx ry (inr i) (inr j) = absurd (not_both x y (behind x y xs rx.0 j) (behind y x ys ry.0 i))

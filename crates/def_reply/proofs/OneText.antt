@@ -41,10 +41,12 @@ same_outcome (Failed told) (Failed others) same =
 -- the text of one request, by the end of its reply's first line and the lines behind it
 abbrev text_with : Request → ℕ → List ℕ → List ℕ → List ℕ
 text_with request worked ending lines =
-    (((line (decimal 1 ++ (codes ":" ++ (decimal 1 ++ (codes " " ++ (word_of request ++ (codes " " ++ ending)))))) ++ lines) ++ []) ++ [])
+    (((line (decimal 1 ++ (codes ":" ++ (decimal 1 ++ (codes " " ++ (word_of request ++ (codes " " ++ ending))))))
+    ++ lines) ++ []) ++ [])
     ++ line (codes "worked " ++ decimal worked)
 
-same_text : (request : Request) (worked : ℕ) (one other : Reply) → SayTheSame one other → only_text request one worked ≡ only_text request other worked
+same_text : (request : Request) (worked : ℕ) (one other : Reply) → SayTheSame one other
+    → only_text request one worked ≡ only_text request other worked
 same_text request worked one other same =
     ap (λ ending. text_with request worked ending (details one)) (same_outcome one other same)
     ∙ ap (λ lines. text_with request worked (outcome other) lines) (same_details one other same)
@@ -52,4 +54,5 @@ same_text request worked one other same =
 pub one_text : OneText
 one_text sources request one other keys others h k =
     same_text request (length keys) one other (one_reply sources request one other h.replied k.replied)
-    ∙ ap (λ (ks : List Key). only_text request other (length ks)) (one_closure sources (request ∷ []) keys others h.closure k.closure)
+    ∙ ap (λ (ks : List Key). only_text request other (length ks))
+    (one_closure sources (request ∷ []) keys others h.closure k.closure)

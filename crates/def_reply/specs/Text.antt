@@ -35,7 +35,8 @@ details (Failed diagnostics) = flat_map diagnostic_line diagnostics
 -- the first line of a reply: the numbers of the caller and of its request, the request's word and the outcome
 abbrev pub head_line : ℕ → ℕ → Request → Reply → List ℕ
 head_line caller number request reply =
-    line (decimal caller ++ (codes ":" ++ (decimal number ++ (codes " " ++ (word_of request ++ (codes " " ++ outcome reply))))))
+    line (decimal caller
+    ++ (codes ":" ++ (decimal number ++ (codes " " ++ (word_of request ++ (codes " " ++ outcome reply))))))
 
 -- the lines of a reply
 abbrev pub reply_text : ℕ → ℕ → Request × Reply → List ℕ

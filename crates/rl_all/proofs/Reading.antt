@@ -1,31 +1,13 @@
--- What the bytes of a module are read as.
-use Rattle.std.proofs.Common.{◌≡◌, ℕ, ◌≤◌, Bool, true, false, cond, refl, sym, subst, List, [], ◌∷◌, length, Option, Some, None}
+-- What is found in small modules is small.
+use Rattle.std.proofs.Common.{◌≡◌, ℕ, ◌≤◌, Bool, true, false, cond, subst, List, [], ◌∷◌, length, Option, Some}
 use Rattle.std.proofs.lemmas.List.Elements.{All-head, All-tail}
 use Rattle.std.proofs.lemmas.Option.{none-some, same_Some}
 use Rattle.std.specs.List.{All}
-use Rattle.std.specs.Option.{option_map, option_and_then}
+use Rattle.std.specs.Option.{option_map}
 use Rattle.std.specs.Prelude.{find}
 use Rattle.std.specs.Str.{bytes_eq}
-use Rattle.def_form.proofs.Lexing.{tokens_are_told}
-use Rattle.def_form.specs.Laws.{module_of, tree_of}
-use Rattle.def_form.specs.Lexed.{lexed}
-use Rattle.def_form.specs.Parsed.{declarations_of}
 use Rattle.def_sources.specs.Limits.{most_bytes}
-use Rattle.def_token.proofs.Determined.{determined}
-use Rattle.def_token.specs.Lexical.{Fault, HasFault, Token}
 use Rattle.sl_io.specs.Root.{bytes_of}
-
--- ---- a text with a lexical fault is not of the form
-
-tree_by : (text : List ℕ) (fault : Fault) → HasFault text fault → (tokens : Option (List Token)) → lexed text ≡ tokens
-    → option_map module_of (option_and_then declarations_of tokens) ≡ None
-tree_by text fault has None h = refl
-tree_by text fault has (Some tokens) h = absurd ((determined text).one tokens fault ((tokens_are_told text tokens).0 h) has)
-
-pub faulty_tree : (text : List ℕ) (fault : Fault) → HasFault text fault → None ≡ tree_of text
-faulty_tree text fault has = sym (tree_by text fault has (lexed text) refl)
-
--- ---- what is found in small modules is small
 
 abbrev IsSmall : List ℕ × List ℕ → Type 0
 IsSmall file = length file.1 ≤ most_bytes

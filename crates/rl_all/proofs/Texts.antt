@@ -1,12 +1,10 @@
 -- Each diagnostic that is told has a text.
-use Rattle.std.proofs.Common.{◌≡◌, ℕ, zero, suc, inl, inr, List, [], ◌∷◌, Option, Some, None, map, length, subst, refl, sym, arith, lt-ltb}
+use Rattle.std.proofs.Common.{◌≡◌, ℕ, zero, suc, Bool, true, false, cond, inl, inr, List, [], ◌∷◌, Option, Some, None, map, length, subst, refl, sym, arith, lt-ltb}
 use Rattle.std.specs.List.{flat_map}
 use Rattle.std.proofs.lemmas.List.Elements.{All-from_recursion}
 use Rattle.sl_base.specs.declared.diag.Diag.{Diag}
-use Rattle.sl_base.specs.declared.place.Place.{Place}
 use Rattle.sl_key.specs.Names.{declared_at}
 use Rattle.sl_key.specs.Order.{key_cmp}
-use Rattle.sl_key.specs.Table.{second_in}
 use Rattle.sl_key.specs.declared.answer.Answer.{Answer}
 use Rattle.sl_key.specs.declared.answer.Answer.TheVariants.{Good, Bad, Spoiled, Circular}
 use Rattle.sl_key.specs.declared.answer.Good.{Good as Held}
@@ -16,33 +14,41 @@ use Rattle.sl_key.specs.declared.flow.Flow.TheVariants.{Needs, Stop, Value as Gi
 use Rattle.sl_key.specs.declared.key.Key.{Key}
 use Rattle.sl_key.specs.declared.key.Key.TheVariants as key
 use Rattle.sl_key.specs.declared.path.DeclPath.{DeclPath}
+use Rattle.sl_key.specs.declared.path.Part.{Part}
 use Rattle.sl_key.specs.declared.request.Reply.{Reply}
 use Rattle.sl_key.specs.declared.request.Reply.TheVariants.{Made, Failed}
 use Rattle.sl_key.specs.declared.request.Request.{Request}
 use Rattle.sl_key.specs.declared.request.Request.TheVariants.{Make}
 use Rattle.sl_key.specs.declared.request.Term.TheVariants.{Load}
-use Rattle.sl_decl.specs.Expr.{Expr, first_of, Number, Truth, Named, Group, Binary}
-use Rattle.sl_decl.specs.declared.declaration.Declaration.{Declaration}
-use Rattle.sl_decl.specs.declared.declaration.Declaration.TheVariants as declaration
-use Rattle.sl_decl.specs.declared.declaration.Tree.{Tree}
-use Rattle.sl_decl.specs.declared.type_tree.TypeTree.{TypeTree}
-use Rattle.sl_decl.specs.declared.type_tree.TypeTree.TheVariants as written
+use Rattle.sl_key.specs.declared.value.Arithmetic.{Arithmetic}
+use Rattle.sl_key.specs.declared.value.Value.{Value}
 use Rattle.sl_io.specs.Root.{bytes_of}
-use Rattle.def_form.specs.Laws as form
+use Rattle.def_token.specs.Lexical.{Token}
+use Rattle.def_tree.specs.ExprTree as expr
+use Rattle.def_tree.specs.ExprTree.{ExprTree, first_token}
+use Rattle.def_tree.specs.TypeTree as written
+use Rattle.def_tree.specs.TypeTree.{TypeTree, NoTypes}
+use Rattle.def_module.specs.Built.{is_small_number}
+use Rattle.def_module.specs.DeclTree as tree
+use Rattle.def_module.specs.DeclTree.{AliasTree, ConstTree, DeclTree}
+use Rattle.def_module.specs.Syntax as module_syntax
+use Rattle.def_syntax.specs.Syntax.{syntax_in}
 use Rattle.def_query.specs.Answer.{Answers}
 use Rattle.def_query.specs.Keys.{IsIn}
 use Rattle.def_query.specs.Settles.{Settled}
 use Rattle.def_query.specs.declared.step.Step.TheVariants as step
 use Rattle.def_query.proofs.Walks.{in_append_cases}
 use Rattle.def_sources.specs.Sources.{Sources}
-use Rattle.def_check.specs.Body.{alias_body, as_alias, as_const, body_of, const_body, imports_body, meaning_of}
-use Rattle.def_check.specs.Evaluate.{Scope, converted_to, type_named, type_written, unknown, value_named, value_of}
-use Rattle.def_check.specs.Parts.{Facts, alias_type, and_then, const_value, finished, modules_held, modules_of, or_bad, tree_held, tree_of, type_held, used, used_by, value_held}
+use Rattle.def_check.specs.Body.{alias_at, alias_body, alias_of, as_alias, as_const, body_of, const_at, const_body, const_of, imports_body, meaning_of, scope_in}
+use Rattle.def_check.specs.Evaluate.{Scope, combined, converted_to, type_named, type_written, unbuilt, unknown, value_named, value_of, value_written}
+use Rattle.def_check.specs.Parts.{Facts, alias_type, and_then, const_value, finished, module_held, module_text, modules_held, modules_of, or_bad, type_held, used, used_by, value_held}
 use Rattle.def_check.specs.Reply.{IsReplyOf, TellsAnswers, broken, cycle_told, key_text, told_by, told_for, told_of}
 use Rattle.def_check.specs.Roots.{asked_for}
-use Rattle.def_check.specs.Syntax.{checked, parsed, read, syntax_of}
-use Rattle.def_check.specs.Values.{converted, result_of}
+use Rattle.def_check.specs.Syntax.{read, syntax_of, told}
+use Rattle.def_check.specs.Values.{arithmetic_of, converted, result_of}
 use Rattle.rl_all.specs.Telling.{CanBeTold, HasText}
+use Rattle.rl_all.proofs.Faults as faults
+use Rattle.rl_all.proofs.Faults.{syntax_text}
 use Rattle.rl_all.proofs.Sorted.{all_of}
 
 -- where the answer is a diagnostic, it has a text
@@ -65,6 +71,10 @@ rule : {A : Type 0} (o : Option A) (told : Diag) → HasText told → EndsWell (
 rule (Some value) told h = tt
 rule None told h = h
 
+choice : {A : Type 0} (yes : Bool) (value : A) (flow : Flow A) → EndsWell flow → EndsWell (cond yes (Given value) flow)
+choice true value flow h = tt
+choice false value flow h = h
+
 use_by : (k : Key) (o : Option Answer) → EndsWell (used_by k o)
 use_by k None = tt
 use_by k (Some (Good value)) = tt
@@ -72,9 +82,9 @@ use_by k (Some (Bad told)) = tt
 use_by k (Some (Spoiled culprit)) = tt
 use_by k (Some (Circular cycle)) = tt
 
-tree_well : (k : Key) (h : Held) → EndsWell (tree_held k h)
-tree_well k (held.Syntax tree) = tt
-tree_well k _ = tt
+text_well : (k : Key) (h : Held) → EndsWell (module_held k h)
+text_well k (held.Syntax text) = tt
+text_well k _ = tt
 
 modules_well : (k : Key) (h : Held) → EndsWell (modules_held k h)
 modules_well k (held.Imports modules) = tt
@@ -88,20 +98,20 @@ value_well : (k : Key) (h : Held) → EndsWell (value_held k h)
 value_well k (held.Const value) = tt
 value_well k _ = tt
 
-alias_well : (name : List ℕ) (o : Option Declaration) → EndsWell (as_alias name o)
-alias_well name (Some (declaration.Alias alias)) = tt
+alias_well : (name : List ℕ) (o : Option DeclTree) → EndsWell (as_alias name o)
+alias_well name (Some (tree.Alias alias)) = tt
 alias_well name _ = tt
 
-const_well : (name : List ℕ) (o : Option Declaration) → EndsWell (as_const name o)
-const_well name (Some (declaration.Const constant)) = tt
+const_well : (name : List ℕ) (o : Option DeclTree) → EndsWell (as_const name o)
+const_well name (Some (tree.Const constant)) = tt
 const_well name _ = tt
 
 module _ (facts : Facts) where
   key_well : (k : Key) → EndsWell (used facts k)
   key_well k = use_by k _
 
-  tree_of_well : (name : List ℕ) → EndsWell (tree_of facts name)
-  tree_of_well name = then (used facts (key.Syntax name)) _ (key_well _) (tree_well _)
+  module_well : (name : List ℕ) → EndsWell (module_text facts name)
+  module_well name = then (used facts (key.Syntax name)) _ (key_well _) (text_well _)
 
   modules_of_well : (name : List ℕ) → EndsWell (modules_of facts name)
   modules_of_well name = then (used facts (key.Imports name)) _ (key_well _) (modules_well _)
@@ -113,65 +123,81 @@ module _ (facts : Facts) where
   const_value_well path = then (used facts (key.Const path)) _ (key_well _) (value_well _)
 
   module _ (scope : Scope) where
-    unknown_well : (A : Type 0) (at : Place) (name : List ℕ) → EndsWell (unknown facts scope {A = A} at name)
-    unknown_well A at name = then (modules_of facts scope.module) _ (modules_of_well _) (λ modules. refl)
+    unbuilt_well : (A : Type 0) (token : Token) → EndsWell (unbuilt facts scope {A = A} token)
+    unbuilt_well A token = refl
 
-    type_named_well : (at : Place) (name : List ℕ) (o : Option Declaration) → EndsWell (type_named facts scope at name o)
-    type_named_well at name (Some (declaration.Alias alias)) = alias_type_well _
-    type_named_well at name (Some (declaration.Const constant)) = refl
-    type_named_well at name None = unknown_well _ at name
+    unknown_well : (A : Type 0) (name : Token) → EndsWell (unknown facts scope {A = A} name)
+    unknown_well A name = then (modules_of facts scope.module) _ (modules_of_well _) (λ modules. refl)
+
+    type_named_well : (name : Token) (o : Option Key) → EndsWell (type_named facts scope name o)
+    type_named_well name (Some (key.Alias path)) = alias_type_well path
+    type_named_well name (Some (key.Const path)) = refl
+    type_named_well name _ = unknown_well _ name
 
     written_well : (type : TypeTree) → EndsWell (type_written facts scope type)
-    written_well (written.Bool at) = tt
-    written_well (written.Int at) = tt
-    written_well (written.Uint at) = tt
-    written_well (written.Named at name) = type_named_well at name _
+    written_well (written.Word written.Bool' token []) = tt
+    written_well (written.Word written.Int token []) = tt
+    written_well (written.Word written.Uint token []) = tt
+    written_well (written.Named name NoTypes []) = type_named_well name _
+    written_well _ = refl
 
-    value_named_well : (at : Place) (name : List ℕ) (o : Option Declaration) → EndsWell (value_named facts scope at name o)
-    value_named_well at name (Some (declaration.Const constant)) = const_value_well _
-    value_named_well at name (Some (declaration.Alias alias)) = then (alias_type facts _) _ (alias_type_well _) (λ type. refl)
-    value_named_well at name None = unknown_well _ at name
+    value_named_well : (name : Token) (o : Option Key) → EndsWell (value_named facts scope name o)
+    value_named_well name (Some (key.Const path)) = const_value_well path
+    value_named_well name (Some (key.Alias path)) = then (alias_type facts path) _ (alias_type_well path) (λ type. refl)
+    value_named_well name _ = unknown_well _ name
 
-    value_of_well : (e : Expr) → EndsWell (value_of facts scope e)
-    value_of_well (Number at value) = tt
-    value_of_well (Truth at value) = tt
-    value_of_well (Named at name) = value_named_well at name _
-    value_of_well (Group at inner) = value_of_well inner
-    value_of_well (Binary left operator at right) =
+    number_well : (token : Token) → EndsWell (value_written facts scope token)
+    number_well token = choice (is_small_number token.text) _ (unbuilt facts scope token) refl
+
+    combined_well : (o : Option Arithmetic) (token : Token) (x y : Value) → EndsWell (combined facts scope o token x y)
+    combined_well (Some operator) token x y = rule (result_of operator x y) _ refl
+    combined_well None token x y = refl
+
+    value_of_well : (e : ExprTree) → EndsWell (value_of facts scope e)
+    value_of_well (expr.Number token) = number_well token
+    value_of_well (expr.Truth value token) = tt
+    value_of_well (expr.Name name NoTypes) = value_named_well name _
+    value_of_well (expr.Group opening inner) = value_of_well inner
+    value_of_well (expr.Binary operator token left right) =
         then (value_of facts scope left) _ (value_of_well left) (λ x.
         then (value_of facts scope right) _ (value_of_well right) (λ y.
-        rule (result_of operator x y) _ refl))
+        combined_well (arithmetic_of operator) token x y))
+    value_of_well _ = refl
+
+    alias_of_well : (alias : AliasTree) → EndsWell (alias_of facts scope alias)
+    alias_of_well alias = then (type_written facts scope alias.type) _ (written_well alias.type) (λ type. tt)
+
+    alias_at_well : (parts : List Part) → EndsWell (alias_at facts scope parts)
+    alias_at_well parts = then (as_alias scope.module (declared_at scope.decls parts)) _ (alias_well _ _) alias_of_well
+
+    const_of_well : (constant : ConstTree) → EndsWell (const_of facts scope constant)
+    const_of_well constant =
+        then (type_written facts scope constant.type) _ (written_well constant.type) (λ type.
+        then (value_of facts scope constant.value) _ (value_of_well constant.value) (λ value.
+        then (converted_to facts scope type (first_token constant.value) value) _ (rule (converted type value) _ refl) (λ final. tt)))
+
+    const_at_well : (parts : List Part) → EndsWell (const_at facts scope parts)
+    const_at_well parts = then (as_const scope.module (declared_at scope.decls parts)) _ (const_well _ _) const_of_well
 
   imports_well : (name : List ℕ) → EndsWell (imports_body facts name)
-  imports_well name = then (tree_of facts name) _ (tree_of_well name) (λ tree. tt)
+  imports_well name = then (module_text facts name) _ (module_well name) (λ text. tt)
 
   alias_body_well : (path : DeclPath) → EndsWell (alias_body facts path)
   alias_body_well path =
-      then (tree_of facts path.module) _ (tree_of_well _) (λ tree.
-      then (as_alias path.module (declared_at tree path.parts)) _ (alias_well _ _) (λ alias.
-      then (type_written facts (record { «module» = path.module; tree = tree }) alias.target) _ (written_well _ alias.target) (λ type. tt)))
+      then (module_text facts path.module) _ (module_well _) (λ text. alias_at_well (scope_in path.module text) path.parts)
 
   const_body_well : (path : DeclPath) → EndsWell (const_body facts path)
   const_body_well path =
-      then (tree_of facts path.module) _ (tree_of_well _) (λ tree.
-      let scope : Scope = record { «module» = path.module; tree = tree } in
-      then (as_const path.module (declared_at tree path.parts)) _ (const_well _ _) (λ constant.
-      then (type_written facts scope constant.written) _ (written_well scope constant.written) (λ type.
-      then (value_of facts scope constant.value) _ (value_of_well scope constant.value) (λ value.
-      then (converted_to facts scope type (first_of constant.value) value) _ (rule (converted type value) _ refl) (λ final. tt)))))
+      then (module_text facts path.module) _ (module_well _) (λ text. const_at_well (scope_in path.module text) path.parts)
 
 -- ---- answers
 
-checked_well : (name : List ℕ) (tree : Tree) (o : Option Declaration) → HasTextIfBad (checked name tree o)
-checked_well name tree None = tt
-checked_well name tree (Some second) = refl
-
-parsed_well : (name : List ℕ) (o : Option Tree) → HasTextIfBad (parsed name o)
-parsed_well name (Some tree) = checked_well name tree (second_in tree.declarations)
-parsed_well name None = refl
+told_well : (name text : List ℕ) (answer : module_syntax.Answer) → faults.HasTextIfBad answer → HasTextIfBad (told name text answer)
+told_well name text (module_syntax.Good module_tree) h = tt
+told_well name text (module_syntax.Bad fault) h = h
 
 read_well : (name : List ℕ) (o : Option (List ℕ)) → HasTextIfBad (read name o)
-read_well name (Some bytes) = parsed_well name (form.tree_of bytes)
+read_well name (Some text) = told_well name text (syntax_in text) (syntax_text text)
 read_well name None = refl
 
 finished_well : (flow : Flow Held) (a : Answer) → EndsWell flow → finished flow ≡ step.Done a → HasTextIfBad a

@@ -1,16 +1,15 @@
 -- Which diagnostics can be told, and where cycles are told.
 use Rattle.std.specs.Prelude.{⊤, IsTrue, length}
 use Rattle.std.specs.List.{All}
-use Rattle.std.specs.Option.{option_map_or}
+use Rattle.std.specs.Option.{option_and_then, option_map_or}
 use Rattle.def_check.specs.Body.{declarations_in}
+use Rattle.def_check.specs.Parts.{place_of}
 use Rattle.def_check.specs.Syntax.{first_place}
 use Rattle.def_slang.specs.Diagnostic.{takes}
 use Rattle.sl_base.specs.declared.diag.Diag.{Diag}
 use Rattle.sl_base.specs.declared.place.Place.{Place}
-use Rattle.sl_decl.specs.declared.declaration.Tree.{Tree}
-use Rattle.sl_key.specs.Names.{declared_at}
+use Rattle.sl_key.specs.Names.{declared_at, name_of}
 use Rattle.sl_key.specs.Order.{parts_of}
-use Rattle.sl_key.specs.Table.{place_of}
 use Rattle.sl_key.specs.declared.answer.Answer.{Answer}
 use Rattle.sl_key.specs.declared.key.Key.{Key}
 use Rattle.sl_key.specs.declared.request.Reply.{Reply}
@@ -28,5 +27,4 @@ CanBeTold (Failed told) = All HasText told
 -- the place of the name of a key's declaration, where this is the syntax of its module
 abbrev pub place_in : Answer → Key → Place
 place_in syntax key =
-    let tree : Tree = record { declarations = declarations_in syntax } in
-    option_map_or place_of (declared_at tree (parts_of key)) first_place
+    option_map_or place_of (option_and_then name_of (declared_at (declarations_in syntax) (parts_of key))) first_place

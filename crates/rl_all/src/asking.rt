@@ -4,14 +4,13 @@ ghost use Rattle.std.specs.Prelude.{◌≡◌, ◌∷◌, ◌++◌, [], IfOk, On
 ghost use Rattle.def_check.specs.Roots.{behind_syntax};
 ghost use Rattle.def_sources.specs.Sources.{Sources};
 ghost use Rattle.rl_all.specs.Asking.{Asks, ForAnswers, Gains, keys_for};
-ghost use Rattle.sl_key.specs.Names.{key_of};
+ghost use Rattle.sl_key.specs.Names.{decls_in, keys_of};
 ghost use Rattle.sl_key.specs.declared.key.Key.TheVariants.{Imports};
 
 use crate::rules::SlangRules;
 use qe_rules::{Asker, Steps};
 use sl_base::{Name, NoMemory};
-use sl_decl::Declaration;
-use sl_key::{Answer, Good, Key};
+use sl_key::{Answer, Declarations, Good, Key};
 use std::alloc::Global;
 use std::sync::ledger::Ledger;
 
@@ -62,21 +61,19 @@ fn keys_behind(alloc: Global, name: &Name, syntax: &Answer) -> Result<Vec<Key>, 
         keys.items ≡ behind_syntax sources answer name.now syntax.now)) }
 {
     match syntax {
-        Answer::Good(Good::Syntax(table)) => keys_in(alloc, name, table.get().as_slice()),
+        Answer::Good(Good::Syntax(decls)) => keys_in(alloc, name, decls.get()),
         _ => Ok(Vec::new(alloc)),
     }
 }
 
 // The key of a module's imports, and the keys of its declarations in order.
-fn keys_in(alloc: Global, name: &Name, declarations: &[Declaration]) -> Result<Vec<Key>, NoMemory>
+fn keys_in(alloc: Global, name: &Name, decls: &Declarations) -> Result<Vec<Key>, NoMemory>
     ensures { IfOk result (λ keys.
-        keys.items ≡ Imports name.now ∷ map (key_of name.now) declarations.now) }
+        keys.items ≡ Imports name.now ∷ keys_of name.now (decls_in decls.now)) }
 {
     let mut keys = Vec::new(alloc);
     keys.push(Key::Imports(name.copy(alloc)?))?;
-    for declaration in declarations {
-        keys.push(Key::of(alloc, name, declaration)?)?;
-    }
+    decls.add_keys(alloc, name, &mut keys)?;
     Ok(keys)
 }
 

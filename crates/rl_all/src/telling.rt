@@ -14,7 +14,7 @@ use crate::rules::SlangRules;
 use crate::told::Told;
 use qe_rules::{Asker, Steps};
 use sl_base::{Bytes, Diag, List, NoMemory, Place};
-use sl_key::{Answer, Good, Key, copy_diag, place_of};
+use sl_key::{Answer, Good, Key, copy_diag, name_of};
 use std::alloc::Global;
 use std::sync::ledger::Ledger;
 
@@ -134,11 +134,14 @@ fn tell_cycle<A: Asker<SlangRules>, L: Ledger>(
 fn place_in(syntax: &Answer, key: &Key) -> Place
     ensures { result ≡ place_in syntax.now key.now }
 {
-    let Answer::Good(Good::Syntax(table)) = syntax else {
+    let Answer::Good(Good::Syntax(decls)) = syntax else {
         return FIRST;
     };
-    match table.get().find_at(key.parts()) {
-        Some(declaration) => place_of(declaration),
+    let Some(decl) = decls.get().find_at(key.parts()) else {
+        return FIRST;
+    };
+    match name_of(decl) {
+        Some(name) => name.place,
         None => FIRST,
     }
 }

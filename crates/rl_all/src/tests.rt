@@ -1,3 +1,5 @@
+//! What requests are replied over one module.
+
 ghost use Rattle.std.specs.Prelude.{◌≡◌, IfOk};
 ghost use Rattle.rl_all.specs.Telling.{CanBeTold};
 
@@ -103,20 +105,61 @@ fn an_absent_module_is_told_at_the_request(rt: HostRuntime) -> Result<(), Fail> 
 }
 
 #[test]
-fn a_module_that_has_no_table_is_told_alone(rt: HostRuntime) -> Result<(), Fail> {
-    expect(&rt, "\n ;", "m:1:1: error E100: form not built yet\n", 1)?;
-    expect(
-        &rt,
-        "\n/* open",
-        "m:1:1: error E100: form not built yet\n",
-        1,
-    )?;
-    expect(
-        &rt,
-        "typealias A = int;\ntypealias A = N;",
-        "m:2:11: error E120: A is declared twice\n",
-        1,
-    )
+fn a_module_that_is_at_fault_is_told_alone(rt: HostRuntime) -> Result<(), Fail> {
+    for (text, told) in [
+        ("\n $;", "m:2:2: error E101: unexpected byte 24\n"),
+        ("\n/* open", "m:2:1: error E102: comment not closed\n"),
+        (
+            "static const int K = 2147483648;",
+            "m:1:22: error E103: bad number\n",
+        ),
+        ("[shader(\"open)]", "m:1:9: error E105: string not closed\n"),
+        ("\n ;", "m:2:2: error E110: unexpected ;\n"),
+        (
+            "typealias A = ",
+            "m:1:15: error E110: unexpected end of file\n",
+        ),
+        (
+            "typealias A = int;\ntypealias A = N;",
+            "m:2:11: error E120: A is declared twice\n",
+        ),
+        (
+            "typealias A = int; struct S {}",
+            "m:1:20: error E100: form not built yet\n",
+        ),
+    ] {
+        expect(&rt, text, told, 1)?;
+    }
+    Ok(())
+}
+
+#[test]
+fn the_first_declaration_that_is_not_built_is_told(rt: HostRuntime) -> Result<(), Fail> {
+    let told = "m:3:1: error E100: form not built yet\n";
+    for last in [
+        "public typealias C = int;",
+        "static const int C = A / B;",
+        "int f() { return A; }",
+    ] {
+        let good = "static const int A = 1;\ntypealias B = N;\n";
+        let text = format!(in rt.alloc(); "{good}{last}\nstruct S {{}}")?;
+        expect(&rt, text.as_str(), told, 1)?;
+    }
+    Ok(())
+}
+
+#[test]
+fn a_name_that_a_function_declares_twice_comes_first(rt: HostRuntime) -> Result<(), Fail> {
+    let told = "m:3:19: error E120: x is declared twice\n";
+    let function = "void f(int x, int x) {}";
+    for others in [
+        "struct S {}\nstruct T {}\n",
+        "typealias A = int;\ntypealias A = int;\n",
+    ] {
+        let text = format!(in rt.alloc(); "{others}{function}")?;
+        expect(&rt, text.as_str(), told, 1)?;
+    }
+    Ok(())
 }
 
 #[test]

@@ -1,4 +1,3 @@
 -- What functions inside promise each other.
 pub mod Early
 pub mod Reading
-pub mod Stack

@@ -8,14 +8,15 @@ ghost use Rattle.sl_key.specs.declared.answer.Answer.TheVariants.{Spoiled};
 ghost use Rattle.sl_key.specs.declared.answer.Good.{Good as Held};
 ghost use Rattle.sl_key.specs.declared.flow.Flow.{Flow};
 ghost use Rattle.sl_key.specs.declared.key.Key.TheVariants.{Syntax};
+ghost use Rattle.sl_tree.specs.DeclView.{alias_in, const_in};
 
 use crate::early::Early;
-use crate::facts::{spoiled, tree_of};
+use crate::facts::{decls_of, spoiled};
 use crate::scope::Reader;
 use qe_rules::Step;
 use sl_base::NoMemory;
-use sl_decl::{AliasTree, ConstTree, Declaration};
 use sl_key::{Answer, DeclPath, Facts, Good, Key, Part, Shared};
+use sl_tree::{AliasTree, ConstTree, DeclTree};
 use std::alloc::Global;
 
 /// The body of the key of a type alias: its module's syntax, and then the type that it names.
@@ -54,12 +55,12 @@ fn finish(read: Result<Good, Early>) -> Result<Step<Key, Answer>, NoMemory>
 fn alias_good(alloc: Global, facts: &Facts, path: &DeclPath) -> Result<Good, Early>
     ensures { Tells result (alias_body facts.now.pairs path.now) }
 {
-    let tree = tree_of(alloc, facts, &path.module)?;
+    let decls = decls_of(alloc, facts, &path.module)?;
     let reader = Reader {
         alloc,
         facts,
         module: &path.module,
-        tree: tree.get(),
+        decls: decls.get(),
     };
     reader.alias_at(path.parts.as_slice())
 }
@@ -68,34 +69,35 @@ fn alias_good(alloc: Global, facts: &Facts, path: &DeclPath) -> Result<Good, Ear
 fn const_good(alloc: Global, facts: &Facts, path: &DeclPath) -> Result<Good, Early>
     ensures { Tells result (const_body facts.now.pairs path.now) }
 {
-    let tree = tree_of(alloc, facts, &path.module)?;
+    let decls = decls_of(alloc, facts, &path.module)?;
     let reader = Reader {
         alloc,
         facts,
         module: &path.module,
-        tree: tree.get(),
+        decls: decls.get(),
     };
     reader.const_at(path.parts.as_slice())
 }
 
 impl Reader<'_> {
-    ghost use Rattle.rl_sig.specs.Reading.{facts_of, scope_of};
+    ghost use Rattle.rl_sig.specs.Reading.{facts_of, scope_of, text_of};
 
     // What the alias to which a path leads holds.
     fn alias_at(&self, parts: &[Part]) -> Result<Good, Early>
         ensures { Tells result (alias_at (facts_of self.now) (scope_of self.now) parts.now) }
     {
-        match self.tree.find_at(parts) {
-            Some(Declaration::Alias(alias)) => self.alias_of(alias),
+        match self.decls.find_at(parts) {
+            Some(DeclTree::Alias(alias)) => self.alias_of(alias),
             _ => Err(Early::Stop(self.undeclared()?)),
         }
     }
 
     // What an alias holds.
     fn alias_of(&self, alias: &AliasTree) -> Result<Good, Early>
-        ensures { Tells result (alias_of (facts_of self.now) (scope_of self.now) alias.now) }
+        ensures { let alias = alias_in (text_of self.now) alias.now in
+            Tells result (alias_of (facts_of self.now) (scope_of self.now) alias) }
     {
-        let ty = self.type_written(&alias.target)?;
+        let ty = self.type_written(&alias.type_)?;
         Ok(Good::Alias(Shared::new(self.alloc, ty)?))
     }
 
@@ -103,19 +105,20 @@ impl Reader<'_> {
     fn const_at(&self, parts: &[Part]) -> Result<Good, Early>
         ensures { Tells result (const_at (facts_of self.now) (scope_of self.now) parts.now) }
     {
-        match self.tree.find_at(parts) {
-            Some(Declaration::Const(constant)) => self.const_of(constant),
+        match self.decls.find_at(parts) {
+            Some(DeclTree::Const(constant)) => self.const_of(constant),
             _ => Err(Early::Stop(self.undeclared()?)),
         }
     }
 
     // What a constant holds.
     fn const_of(&self, constant: &ConstTree) -> Result<Good, Early>
-        ensures { Tells result (const_of (facts_of self.now) (scope_of self.now) constant.now) }
+        ensures { let constant = const_in (text_of self.now) constant.now in
+            Tells result (const_of (facts_of self.now) (scope_of self.now) constant) }
     {
-        let ty = self.type_written(&constant.written)?;
-        let operand = self.operand_of(&constant.value)?;
-        let value = self.converted_to(ty, operand.at, operand.value)?;
+        let ty = self.type_written(&constant.type_)?;
+        let value = self.value_of(&constant.value)?;
+        let value = self.converted_to(ty, &constant.value, value)?;
         Ok(Good::Const(Shared::new(self.alloc, value)?))
     }
 

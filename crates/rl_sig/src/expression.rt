@@ -1,133 +1,128 @@
 //! Expressions.
 
-ghost use Rattle.std.specs.Prelude.{◌≡◌, ◌++◌, ◌∷◌, [], List, reverse, OnOk};
-ghost use Rattle.def_check.specs.Evaluate.{combined, converted_to};
+ghost use Rattle.std.specs.Prelude.{◌≡◌, ℕ, List};
+ghost use Rattle.def_tree.specs.ExprTree as trees;
+ghost use Rattle.def_check.specs.Evaluate.{combined, converted_to, value_of, value_written};
+ghost use Rattle.def_check.specs.Values.{arithmetic_of};
 ghost use Rattle.rl_sig.specs.Early.{Tells};
-ghost use Rattle.rl_sig.specs.Stack.{Steps, operand, operand_of, stepped};
-ghost use Rattle.sl_decl.specs.declared.expression.ExprNode.TheVariants.{Binary, Group};
+ghost use Rattle.sl_token.specs.View.{token_in};
+ghost use Rattle.sl_tree.specs.View.{expr_in, operator_of};
 
 use crate::early::Early;
 use crate::scope::Reader;
-use crate::values::{converted, mark_of, misfit_of, number_of, result_of, text_of, type_of};
-use sl_base::{NoMemory, Place};
-use sl_decl::{ExprNode, ExprTree, Operator};
+use crate::values::{arithmetic_of, converted, mark_of, misfit_of, result_of, text_of, type_of};
 use sl_key::{Answer, Ty, Value};
-
-/// A value, and the place of the first token of the expression that has it.
-#[derive(Clone, Copy, Debug, PartialEq, Eq)]
-pub struct Operand {
-    pub at: Place,
-    pub value: Value,
-}
+use sl_scopes::small_number;
+use sl_token::Token;
+use sl_tree::{ExprTree, Operator};
 
 impl Reader<'_> {
-    ghost use Rattle.rl_sig.specs.Reading.{facts_of, scope_of};
-    ghost use Rattle.rl_sig.specs.declared.expression.Operand.{Operand as Declared};
+    ghost use Rattle.rl_sig.specs.Reading.{facts_of, scope_of, text_of};
 
-    /// The value of an expression, and the place of its first token.
-    pub fn operand_of(&self, expression: &ExprTree) -> Result<Operand, Early>
-        ensures { Tells result
-            (operand_of (facts_of self.now) (scope_of self.now) expression.now) }
+    /// The value of an expression.
+    #[tactic(auto, using(crate::proofs::Forms::expr_forms))]
+    pub fn value_of(&self, expr: &ExprTree) -> Result<Value, Early>
+        ensures { let expr = expr_in (text_of self.now) expr.now in
+            Tells result (value_of (facts_of self.now) (scope_of self.now) expr) }
     {
-        let mut operands = Vec::new(self.alloc);
-        for node in expression.nodes() {
-            self.step(&mut operands, node)?;
-        }
-        match operands.pop() {
-            Some(operand) => Ok(operand),
-            None => unreachable!(),
+        match expr {
+            ExprTree::Number(token) => self.value_written(*token),
+            ExprTree::Truth(truth, _) => Ok(Value::Bool(*truth)),
+            ExprTree::Name(name, args) => {
+                if args.is_empty() {
+                    self.value_named(*name)
+                } else {
+                    self.unbuilt(*name)
+                }
+            }
+            ExprTree::Group(_, inner) => self.value_of(inner.get()),
+            ExprTree::Binary(operator, token, left, right) => {
+                let x = self.value_of(left.get())?;
+                let y = self.value_of(right.get())?;
+                self.combined(*operator, *token, x, y)
+            }
+            ExprTree::Itself(_)
+            | ExprTree::Conversion(_, _, _)
+            | ExprTree::OwnType(_)
+            | ExprTree::Call(_, _, _)
+            | ExprTree::Index(_, _, _)
+            | ExprTree::Member(_, _)
+            | ExprTree::Unary(_, _, _)
+            | ExprTree::Cast(_, _, _, _)
+            | ExprTree::Conditional(_, _, _, _) => self.unbuilt(first_token(expr)),
         }
     }
 
-    /// A value as one of a type, where an expression that begins here has it.
-    pub fn converted_to(&self, ty: Ty, at: Place, value: Value) -> Result<Value, Early>
-        ensures { Tells result
-            (converted_to (facts_of self.now) (scope_of self.now) ty at value) }
+    /// A value as one of a type, where this expression has it.
+    pub fn converted_to(&self, ty: Ty, expr: &ExprTree, value: Value) -> Result<Value, Early>
+        ensures { let first = trees.first_token (expr_in (text_of self.now) expr.now) in
+            Tells result (converted_to (facts_of self.now) (scope_of self.now) ty first value) }
     {
         match converted(ty, value) {
             Some(value) => Ok(value),
             None => {
-                let told = self.told_texts(at, 302, text_of(type_of(value)), text_of(ty))?;
+                let first = first_token(expr);
+                let told = self.told_texts(first, 302, text_of(type_of(value)), text_of(ty))?;
                 Err(Early::Stop(Answer::Bad(told)))
             }
         }
     }
 
-    // Reads a node, which takes its operands from the end of those before it.
-    fn step(&self, operands: &mut Vec<Operand>, node: &ExprNode) -> Result<(), Early>
-        ensures { (stack : List Declared) → operands.old.items ≡ reverse stack → Steps result
-            (stepped (facts_of self.now) (scope_of self.now) stack node.now) operands.new.items }
+    // The value of a number.
+    fn value_written(&self, token: Token) -> Result<Value, Early>
+        ensures { let token = token_in (text_of self.now) token in
+            Tells result (value_written (facts_of self.now) (scope_of self.now) token) }
     {
-        match node {
-            ExprNode::Number { at, value } => { Ok(push(operands, *at, number_of(*value))?) }
-            ExprNode::Truth { at, value } => Ok(push(operands, *at, Value::Bool(*value))?),
-            ExprNode::Named { at, name } => {
-                let value = self.value_named(*at, name)?;
-                Ok(push(operands, *at, value)?)
-            }
-            ExprNode::Group { at } => self.group(operands, *at),
-            ExprNode::Binary { operator, at } => self.combine(operands, *operator, *at),
+        match small_number(self.decls.text(token)) {
+            Some(number) => Ok(Value::Int(number.cast_signed())),
+            None => self.unbuilt(token),
         }
-    }
-
-    // An expression in parentheses begins with the parenthesis.
-    fn group(&self, operands: &mut Vec<Operand>, at: Place) -> Result<(), Early>
-        ensures { (stack : List Declared) → operands.old.items ≡ reverse stack → Steps result
-            (stepped (facts_of self.now) (scope_of self.now) stack (Group at)) operands.new.items }
-    {
-        match operands.pop() {
-            Some(inner) => Ok(push(operands, at, inner.value)?),
-            None => Ok(()),
-        }
-    }
-
-    // Puts the value of an operator in the place of its operands.
-    fn combine(
-        &self,
-        operands: &mut Vec<Operand>,
-        operator: Operator,
-        at: Place,
-    ) -> Result<(), Early>
-        ensures { (stack : List Declared) → operands.old.items ≡ reverse stack → Steps result
-            (stepped (facts_of self.now) (scope_of self.now) stack (Binary operator at))
-            operands.new.items }
-    {
-        let Some(right) = operands.pop() else {
-            return Ok(());
-        };
-        let Some(left) = operands.pop() else {
-            return Ok(());
-        };
-        let value = self.combined(operator, at, left.value, right.value)?;
-        Ok(push(operands, left.at, value)?)
     }
 
     // The value of an operator on two values.
     fn combined(
         &self,
         operator: Operator,
-        at: Place,
+        token: Token,
         left: Value,
         right: Value,
     ) -> Result<Value, Early>
-        ensures { Tells result
-            (combined (facts_of self.now) (scope_of self.now) operator at left right) }
+        ensures { Tells result (combined (facts_of self.now) (scope_of self.now) (arithmetic_of (operator_of operator))
+            (token_in (text_of self.now) token) left right) }
     {
+        let Some(operator) = arithmetic_of(operator) else {
+            return self.unbuilt(token);
+        };
         match result_of(operator, left, right) {
             Some(value) => Ok(value),
             None => {
                 let misfit = text_of(misfit_of(left, right));
-                let told = self.told_texts(at, 311, mark_of(operator), misfit)?;
+                let told = self.told_texts(token, 311, mark_of(operator), misfit)?;
                 Err(Early::Stop(Answer::Bad(told)))
             }
         }
     }
 }
 
-// Puts an operand at the end.
-fn push(operands: &mut Vec<Operand>, at: Place, value: Value) -> Result<(), NoMemory>
-    ensures { OnOk result (operands.new.items ≡ operands.old.items ++ operand at value ∷ []) }
+// The first token of an expression.
+#[tactic(auto, using(crate::proofs::Forms::expr_forms))]
+fn first_token(expr: &ExprTree) -> Token
+    ensures { (source : List ℕ) → token_in source result ≡ trees.first_token (expr_in source expr.now) }
 {
-    operands.push(Operand { at, value })?;
-    Ok(())
+    match expr {
+        ExprTree::Number(token)
+        | ExprTree::Truth(_, token)
+        | ExprTree::Itself(token)
+        | ExprTree::Name(token, _)
+        | ExprTree::Conversion(_, token, _)
+        | ExprTree::OwnType(token)
+        | ExprTree::Group(token, _)
+        | ExprTree::Unary(_, token, _)
+        | ExprTree::Cast(token, _, _, _) => *token,
+        ExprTree::Call(first, _, _)
+        | ExprTree::Index(first, _, _)
+        | ExprTree::Member(first, _)
+        | ExprTree::Binary(_, _, first, _)
+        | ExprTree::Conditional(first, _, _, _) => first_token(first.get()),
+    }
 }

@@ -1,7 +1,7 @@
 //! Answers of keys where they are used.
 
 ghost use Rattle.std.specs.Prelude.{◌≡◌, IfOk};
-ghost use Rattle.def_check.specs.Parts.{alias_type, const_value, modules_of, tree_of, used};
+ghost use Rattle.def_check.specs.Parts.{alias_type, const_value, modules_of, module_text, used};
 ghost use Rattle.rl_sig.specs.Early.{Tells};
 ghost use Rattle.sl_key.specs.declared.answer.Answer.TheVariants.{Spoiled};
 
@@ -31,8 +31,8 @@ fn used(alloc: Global, facts: &Facts, key: &Key) -> Result<Good, Early>
 }
 
 /// The declarations of a module.
-pub fn tree_of(alloc: Global, facts: &Facts, module: &Name) -> Result<Shared<Declarations>, Early>
-    ensures { Tells result (tree_of facts.now.pairs module.now) }
+pub fn decls_of(alloc: Global, facts: &Facts, module: &Name) -> Result<Shared<Declarations>, Early>
+    ensures { Tells result (module_text facts.now.pairs module.now) }
 {
     let key = Key::Syntax(module.copy(alloc)?);
     match used(alloc, facts, &key)? {

@@ -1,14 +1,12 @@
 //! Types, values, and how values are converted and combined.
 
 ghost use Rattle.std.specs.Prelude.{◌≡◌, ℤ};
-ghost use Rattle.def_check.specs.Values.{converted, int_result, misfit_of, result_of};
+ghost use Rattle.def_check.specs.Values.{arithmetic_of, converted, int_result, mark_of, misfit_of, result_of};
 ghost use Rattle.def_check.specs.Values.{text_of, type_of, uint_result, width};
-ghost use Rattle.std.specs.Int.{cast_signed};
-ghost use Rattle.sl_key.specs.declared.value.Value.TheVariants.{Int};
-ghost use Rattle.def_form.specs.Form.{mark_of};
+ghost use Rattle.sl_tree.specs.View.{operator_of};
 
-use sl_decl::Operator;
-use sl_key::{Ty, Value};
+use sl_key::{Arithmetic, Ty, Value};
+use sl_tree::Operator;
 
 /// How a type is told.
 pub fn text_of(ty: Ty) -> &'static str
@@ -21,14 +19,26 @@ pub fn text_of(ty: Ty) -> &'static str
     }
 }
 
+/// The operator on integers that is written, if it is built.
+pub fn arithmetic_of(operator: Operator) -> Option<Arithmetic>
+    ensures { result ≡ arithmetic_of (operator_of operator) }
+{
+    match operator {
+        Operator::Add => Some(Arithmetic::Add),
+        Operator::Subtract => Some(Arithmetic::Subtract),
+        Operator::Multiply => Some(Arithmetic::Multiply),
+        _ => None,
+    }
+}
+
 /// The mark of an operator.
-pub fn mark_of(operator: Operator) -> &'static str
+pub fn mark_of(operator: Arithmetic) -> &'static str
     ensures { result.now ≡ mark_of operator }
 {
     match operator {
-        Operator::Add => "+",
-        Operator::Subtract => "-",
-        Operator::Multiply => "*",
+        Arithmetic::Add => "+",
+        Arithmetic::Subtract => "-",
+        Arithmetic::Multiply => "*",
     }
 }
 
@@ -41,13 +51,6 @@ pub fn type_of(value: Value) -> Ty
         Value::Int(_) => Ty::Int,
         Value::Uint(_) => Ty::Uint,
     }
-}
-
-/// The value of a number that is written.
-pub fn number_of(number: u32) -> Value
-    ensures { result ≡ Int (cast_signed width number) }
-{
-    Value::Int(number.cast_signed())
 }
 
 /// A value as one of a type, if it can be converted.
@@ -65,7 +68,7 @@ pub fn converted(ty: Ty, value: Value) -> Option<Value>
 }
 
 /// An operator on two values, if it takes them.
-pub fn result_of(operator: Operator, left: Value, right: Value) -> Option<Value>
+pub fn result_of(operator: Arithmetic, left: Value, right: Value) -> Option<Value>
     ensures { result ≡ result_of operator left right }
 {
     match (left, right) {
@@ -82,24 +85,24 @@ pub fn result_of(operator: Operator, left: Value, right: Value) -> Option<Value>
 }
 
 // An operator on ints.
-fn int_result(operator: Operator, x: i32, y: i32) -> i32
+fn int_result(operator: Arithmetic, x: i32, y: i32) -> i32
     ensures { result ≡ int_result width operator x y }
 {
     match operator {
-        Operator::Add => x.wrapping_add(y),
-        Operator::Subtract => x.wrapping_sub(y),
-        Operator::Multiply => x.wrapping_mul(y),
+        Arithmetic::Add => x.wrapping_add(y),
+        Arithmetic::Subtract => x.wrapping_sub(y),
+        Arithmetic::Multiply => x.wrapping_mul(y),
     }
 }
 
 // An operator on uints.
-fn uint_result(operator: Operator, x: u32, y: u32) -> u32
+fn uint_result(operator: Arithmetic, x: u32, y: u32) -> u32
     ensures { result ≡ uint_result width operator x y }
 {
     match operator {
-        Operator::Add => x.wrapping_add(y),
-        Operator::Subtract => x.wrapping_sub(y),
-        Operator::Multiply => x.wrapping_mul(y),
+        Arithmetic::Add => x.wrapping_add(y),
+        Arithmetic::Subtract => x.wrapping_sub(y),
+        Arithmetic::Multiply => x.wrapping_mul(y),
     }
 }
 

@@ -1,99 +1,157 @@
 -- How declarations are found by their names.
-use Rattle.std.proofs.Common.{◌≡◌, ◌∙◌, refl, sym, ap, ℕ, suc, ◌+◌, Bool, true, false, cond, List, [], ◌∷◌, ◌++◌, length, Option, Some, None, arith, nat_eq}
-use Rattle.std.specs.Prelude.{IsSome, slice_get}
+use Rattle.std.proofs.Common.{◌≡◌, ◌∙◌, refl, sym, ap, ℕ, ◌+◌, Bool, true, false, cond, List, [], ◌∷◌, ◌++◌, length, Option, Some, None, arith, nat_eq}
+use Rattle.std.specs.Prelude.{find, nat_lt, slice_get}
 use Rattle.std.specs.Cmp.Lexicographic.{pointwise, bytes_decides}
+use Rattle.std.specs.List.{position_from, position_or_len}
 use Rattle.std.specs.Map.{lookup}
+use Rattle.std.specs.Option.{option_and_then, option_or}
 use Rattle.std.specs.Str.{bytes_eq}
 use Rattle.std.specs.declared.alloc.Global.{Global}
 use Rattle.std.specs.declared.vec.Vec.{Vec}
+use Rattle.std.proofs.lemmas.Bool.Decides.{nat_tests}
+use Rattle.std.proofs.lemmas.Iterator.Adapters.{position_from-zero}
+use Rattle.std.proofs.lemmas.List.Folds.{find_at}
+use Rattle.std.proofs.lemmas.Option.{slice_get_past}
 use Rattle.std.proofs.lemmas.Slice.Eq.{bytes_eq-Decides}
-use Rattle.sl_decl.specs.declared.declaration.Declaration.{Declaration}
-use Rattle.sl_key.specs.Entering.{Enters, InsertsName}
-use Rattle.sl_key.specs.Index.{Entry, FindsAt, IsIndex}
-use Rattle.sl_key.specs.Table.{name_of, named_in}
+use Rattle.def_token.specs.Lexical.{Token}
+use Rattle.def_module.specs.DeclTree.{DeclTree}
+use Rattle.sl_key.specs.Index.{Entry, IsIndex, number_in, number_of}
+use Rattle.sl_key.specs.Names.{is_called, name_of, named_in}
 
--- the number that the entries have for a name
-abbrev pub number_in : List ℕ → List Entry → Option ℕ
-number_in name entries = lookup (λ (key : Vec ℕ Global). pointwise nat_eq name key.items) entries
+or_none : {A : Type 0} (o : Option A) → option_or o None ≡ o
+or_none None = refl
+or_none (Some x) = refl
 
--- two texts that are not the same
-apart : (xs ys : List ℕ) (b : Bool) → bytes_eq xs ys ≡ b → (xs ≡ ys → ⊥) → b ≡ false
-apart xs ys true h other = absurd (other ((bytes_eq-Decides xs ys).0 h))
-apart xs ys false h other = refl
+or_chosen : {A : Type 0} (b : Bool) (x : A) (o p : Option A)
+    → cond b (Some x) (option_or o p) ≡ option_or (cond b (Some x) o) p
+or_chosen true x o p = refl
+or_chosen false x o p = refl
 
-here : (d : Declaration) (ds : List Declaration) (name : List ℕ) → name ≡ name_of d → named_in (d ∷ ds) name ≡ Some d
-here d ds name same = ap (λ b. cond b (Some d) (named_in ds name)) ((bytes_eq-Decides (name_of d) name).1 (sym same))
+lookup_last : {K X : Type 0} (test : K → Bool) (entries : List (K × X)) (key : K) (value : X)
+    → lookup test (entries ++ (key, value) ∷ []) ≡ option_or (lookup test entries) (cond (test key) (Some value) None)
+lookup_last test [] key value = refl
+lookup_last test (entry ∷ entries) key value =
+    ap (cond (test entry.0) (Some entry.1)) (lookup_last test entries key value)
+    ∙ or_chosen (test entry.0) entry.1 (lookup test entries) (cond (test key) (Some value) None)
 
-there : (d : Declaration) (ds : List Declaration) (name : List ℕ) → (name_of d ≡ name → ⊥) → named_in (d ∷ ds) name ≡ named_in ds name
-there d ds name other = ap (λ b. cond b (Some d) (named_in ds name)) (apart (name_of d) name _ refl other)
+position_last : {A : Type 0} (test : A → Bool) (from : ℕ) (xs : List A) (x : A)
+    → position_from test from (xs ++ x ∷ [])
+    ≡ option_or (position_from test from xs) (cond (test x) (Some (from + length xs)) None)
+position_last test from [] x = ap (λ n. cond (test x) (Some n) None) (omega arith)
+position_last test from (first ∷ xs) x =
+    ap (cond (test first) (Some from)) (
+    position_last test (from + 1) xs x
+    ∙ ap (λ n. option_or (position_from test (from + 1) xs) (cond (test x) (Some n) None)) (omega arith)
+    )
+    ∙ or_chosen (test first) from (position_from test (from + 1) xs)
+    (cond (test x) (Some (from + length (first ∷ xs))) None)
 
-later : (d : Declaration) (ds : List Declaration) (name : List ℕ) (from : ℕ) (o : Option ℕ)
-    → (name_of d ≡ name → ⊥) → FindsAt ds name (from + 1) o → FindsAt (d ∷ ds) name from o
-later d ds name from None other f = there d ds name other ∙ f
-later d ds name from (Some n) other f =
-    (suc f.0, f.1, omega (arith, f.2), f.3, there d ds name other ∙ f.4)
+found_by : {A : Type 0} (xs : List A) (n : ℕ) (b : Bool) → nat_lt n (length xs) ≡ b
+    → slice_get xs n ≡ option_and_then (slice_get xs) (cond b (Some n) None)
+found_by xs n true h = refl
+found_by xs n false h = slice_get_past xs n (grind (arith, nat_tests))
 
-finds_by : (d : Declaration) (ds : List Declaration) (e : Entry) (es : List Entry) (name : List ℕ) (from : ℕ) (b : Bool)
-    → pointwise nat_eq name e.0.items ≡ b → e.0.items ≡ name_of d → e.1 ≡ from
-    → FindsAt ds name (from + 1) (number_in name es)
-    → FindsAt (d ∷ ds) name from (cond b (Some e.1) (number_in name es))
-finds_by d ds e es name from true h named number rest =
-    (0, d, omega (arith, number), refl, here d ds name ((bytes_decides name e.0.items).0 h ∙ named))
-finds_by d ds e es name from false h named number rest =
-    later d ds name from (number_in name es)
-    (λ same. let is : pointwise nat_eq name e.0.items ≡ true = (bytes_decides name e.0.items).1 (sym same ∙ sym named) in cc) rest
+-- the first that passes a test stands where its number says
+found_at : {A : Type 0} (test : A → Bool) (xs : List A)
+    → find test xs ≡ option_and_then (slice_get xs) (position_from test 0 xs)
+found_at test xs =
+    find_at test xs
+    ∙ found_by xs (position_or_len test xs) (nat_lt (position_or_len test xs) (length xs)) refl
+    ∙ ap (option_and_then (slice_get xs)) (position_from-zero test xs)
 
-pub index_finds : (from : ℕ) (ds : List Declaration) (es : List Entry) (name : List ℕ) → IsIndex from ds es
-    → FindsAt ds name from (number_in name es)
-index_finds from [] [] name h = refl
-index_finds from [] (e ∷ es) name h = absurd h
-index_finds from (d ∷ ds) [] name h = absurd h
-index_finds from (d ∷ ds) (e ∷ es) name h =
-    finds_by d ds e es name from (pointwise nat_eq name e.0.items) refl h.0 h.1 (index_finds (from + 1) ds es name h.2)
+-- the declaration of a name stands where the entries say
+pub index_finds : (decls : List DeclTree) (entries : List Entry) (name : List ℕ) → IsIndex decls entries
+    → named_in decls name ≡ option_and_then (slice_get decls) (number_in name entries)
+index_finds decls entries name index =
+    found_at (λ (decl : DeclTree). is_called name (name_of decl)) decls
+    ∙ ap (option_and_then (slice_get decls)) (sym (index name))
 
-pub index_grows : (from : ℕ) (ds : List Declaration) (es : List Entry) (d : Declaration) (key : Vec ℕ Global) (number : ℕ)
-    → IsIndex from ds es → key.items ≡ name_of d → number ≡ from + length es → IsIndex from (ds ++ d ∷ []) (es ++ (key, number) ∷ [])
-index_grows from [] [] d key number h named is = (named, omega (arith, is), tt)
-index_grows from [] (e ∷ es) d key number h named is = absurd h
-index_grows from (x ∷ ds) [] d key number h named is = absurd h
-index_grows from (x ∷ ds) (e ∷ es) d key number h named is =
-    (h.0, h.1, index_grows (from + 1) ds es d key number h.2 named (omega (arith, is)))
+-- the number of one declaration more
+number_last : (decls : List DeclTree) (decl : DeclTree) (name : List ℕ) (called : Option Token) → name_of decl ≡ called
+    → option_or (number_of decls name) (cond (is_called name called) (Some (length decls)) None)
+    ≡ number_of (decls ++ decl ∷ []) name
+number_last decls decl name called is =
+    let number : length decls ≡ 0 + length decls = omega arith in
+    ap (λ c. option_or (number_of decls name) (cond (is_called name c) (Some (length decls)) None)) (sym is)
+    ∙ ap (λ n. option_or (number_of decls name) (cond (is_called name (name_of decl)) (Some n) None)) number
+    ∙ sym (position_last (λ (other : DeclTree). is_called name (name_of other)) 0 decls decl)
 
-lacks_by : (ds : List Declaration) (name : List ℕ) (from : ℕ) (o : Option ℕ) → FindsAt ds name from o → o ≡ None → named_in ds name ≡ None
-lacks_by ds name from None f e = f
-lacks_by ds name from (Some n) f e = absurd (cc)
+-- a declaration without a name changes no number
+pub index_unnamed : (decls : List DeclTree) (decl : DeclTree) (entries : List Entry) → name_of decl ≡ None
+    → IsIndex decls entries → IsIndex (decls ++ decl ∷ []) entries
+index_unnamed decls decl entries is index name =
+    index name ∙ sym (or_none (number_of decls name)) ∙ number_last decls decl name None is
 
--- a name that the entries lack is no declaration's
-pub index_lacks : (from : ℕ) (ds : List Declaration) (es : List Entry) (name : List ℕ) → IsIndex from ds es
-    → number_in name es ≡ None → named_in ds name ≡ None
-index_lacks from ds es name h e = lacks_by ds name from (number_in name es) (index_finds from ds es name h) e
+again : (decls : List DeclTree) (entries : List Entry) (text name : List ℕ) (number : ℕ) (b : Bool)
+    → bytes_eq text name ≡ b
+    → number_in text entries ≡ Some number → IsIndex decls entries
+    → number_in name entries ≡ option_or (number_of decls name) (cond b (Some (length decls)) None)
+again decls entries text name number true same has index =
+    let alike = sym ((bytes_eq-Decides text name).0 same) in
+    let is : number_in name entries ≡ Some number = ap (λ n. number_in n entries) alike ∙ has in
+    is ∙ ap (λ o. option_or o (Some (length decls))) (sym is ∙ index name)
+again decls entries text name number false other has index = index name ∙ sym (or_none (number_of decls name))
 
-has_by : (ds : List Declaration) (name : List ℕ) (from n : ℕ) (o : Option ℕ) → FindsAt ds name from o → o ≡ Some n → IsSome (named_in ds name)
-has_by ds name from n None f e = absurd (cc)
-has_by ds name from n (Some m) f e = rw f.4 refl
+-- nor does a declaration with a name that another has
+pub index_again : (decls : List DeclTree) (decl : DeclTree) (entries : List Entry) (token : Token) (number : ℕ)
+    → name_of decl ≡ Some token
+    → number_in token.text entries ≡ Some number → IsIndex decls entries → IsIndex (decls ++ decl ∷ []) entries
+index_again decls decl entries token number is has index name =
+    again decls entries token.text name number (bytes_eq token.text name) refl has index
+    ∙ number_last decls decl name (Some token) is
 
--- a name that the entries have is a declaration's
-pub index_has : (from n : ℕ) (ds : List Declaration) (es : List Entry) (name : List ℕ) → IsIndex from ds es
-    → number_in name es ≡ Some n → IsSome (named_in ds name)
-index_has from n ds es name h e = has_by ds name from n (number_in name es) (index_finds from ds es name h) e
+added : (decls : List DeclTree) (entries : List Entry) (text name : List ℕ) (b : Bool) → bytes_eq text name ≡ b
+    → number_in text entries ≡ None → IsIndex decls entries
+    → cond b (Some (length decls)) (number_in name entries)
+    ≡ option_or (number_of decls name) (cond b (Some (length decls)) None)
+added decls entries text name true same lacks index =
+    let alike = sym ((bytes_eq-Decides text name).0 same) in
+    let none : number_in name entries ≡ None = ap (λ n. number_in n entries) alike ∙ lacks in
+    ap (λ o. option_or o (Some (length decls))) (sym none ∙ index name)
+added decls entries text name false other lacks index = index name ∙ sym (or_none (number_of decls name))
 
-at_by : (ds : List Declaration) (name : List ℕ) (n : ℕ) (o : Option ℕ) → FindsAt ds name 0 o → o ≡ Some n → slice_get ds n ≡ named_in ds name
-at_by ds name n None f e = absurd (cc)
-at_by ds name n (Some m) f e =
-    let same : n ≡ f.0 = (let mn : m ≡ n = cc in omega (arith, mn, f.2)) in
-    ap (slice_get ds) same ∙ f.3 ∙ sym f.4
+-- the entries have a number for a name that they did not have
+abbrev pub HasNumber : List Entry → List ℕ → ℕ → List Entry → Type 0
+HasNumber old text number new =
+    (name : List ℕ) → number_in name new ≡ cond (bytes_eq text name) (Some number) (number_in name old)
 
--- the number is that of the declaration of the name
-pub index_at : (ds : List Declaration) (es : List Entry) (name : List ℕ) (n : ℕ) → IsIndex 0 ds es
-    → number_in name es ≡ Some n → slice_get ds n ≡ named_in ds name
-index_at ds es name n h e = at_by ds name n (number_in name es) (index_finds 0 ds es name h) e
+-- a declaration with a name that no other has gets its number
+pub index_grows : (decls : List DeclTree) (decl : DeclTree) (old new : List Entry) (token : Token) (text : List ℕ)
+    (number : ℕ)
+    → name_of decl ≡ Some token → text ≡ token.text → length decls ≡ number → number_in text old ≡ None
+    → HasNumber old text number new
+    → IsIndex decls old → IsIndex (decls ++ decl ∷ []) new
+index_grows decls decl old new token text number is same count lacks has index name =
+    has name
+    ∙ ap (λ n. cond (bytes_eq text name) (Some n) (number_in name old)) (sym count)
+    ∙ added decls old text name (bytes_eq text name) refl lacks index
+    ∙ ap (λ t. option_or (number_of decls name) (cond (bytes_eq t name) (Some (length decls)) None)) same
+    ∙ number_last decls decl name (Some token) is
 
--- a name that is entered is the first one
-pub enters : (ds : List Declaration) (d : Declaration) (old new : List Entry) → IsIndex 0 ds old
-    → number_in (name_of d) old ≡ None → InsertsName old (name_of d) new → Enters ds d new
-enters ds d old new h lacks inserts =
-    let is = inserts lacks in
-    record {
-      first = index_lacks 0 ds old (name_of d) h lacks;
-      entered = rw is.2 (index_grows 0 ds old d is.0 (length old) h is.1 (omega arith));
-    }
+entered : (old : List Entry) (text name : List ℕ) (number : ℕ) (b : Bool) → bytes_eq text name ≡ b
+    → number_in text old ≡ None
+    → option_or (number_in name old) (cond (pointwise nat_eq name text) (Some number) None)
+    ≡ cond b (Some number) (number_in name old)
+entered old text name number true same lacks =
+    let is = (bytes_eq-Decides text name).0 same in
+    let none : number_in name old ≡ None = ap (λ n. number_in n old) (sym is) ∙ lacks in
+    ap (λ o. option_or o (cond (pointwise nat_eq name text) (Some number) None)) none
+    ∙ ap (λ b. cond b (Some number) None) ((bytes_decides name text).1 (sym is))
+entered old text name number false other lacks =
+    ap (λ b. option_or (number_in name old) (cond b (Some number) None)) (unlike (pointwise nat_eq name text) refl)
+    ∙ or_none (number_in name old)
+  where
+    unlike : (b : Bool) → pointwise nat_eq name text ≡ b → b ≡ false
+    unlike true same =
+        let alike = sym ((bytes_decides name text).0 same) in
+        let is : bytes_eq text name ≡ true = (bytes_eq-Decides text name).1 alike in absurd (cc)
+    unlike false same = refl
+
+-- an entry behind the others is that of its name
+pub entry_grows : (old : List Entry) (key : Vec ℕ Global) (text : List ℕ) (number : ℕ) → key.items ≡ text
+    → number_in text old ≡ None
+    → HasNumber old text number (old ++ (key, number) ∷ [])
+entry_grows old key text number is lacks name =
+    lookup_last (λ (other : Vec ℕ Global). pointwise nat_eq name other.items) old key number
+    ∙ ap (λ items. option_or (number_in name old) (cond (pointwise nat_eq name items) (Some number) None)) is
+    ∙ entered old text name number (bytes_eq text name) refl lacks

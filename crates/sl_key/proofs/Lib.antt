@@ -1,1 +1,4 @@
+pub mod Behind
 pub mod Indexes
+pub mod Naming
+pub mod Views

@@ -1,156 +1,209 @@
 //! The declarations of a module.
 
-ghost use Rattle.std.specs.Prelude.{◌≡◌, ◌++◌, ◌∷◌, [], length, IfOk, IfErr, OnOk, None};
-ghost use Rattle.std.specs.Option.{option_copied};
-ghost use Rattle.std.specs.Prelude.{List};
-ghost use Rattle.sl_key.specs.Entering.{Enters, InsertsName, TellsTwice};
-ghost use Rattle.sl_key.specs.Index.{IsIndex};
-ghost use Rattle.sl_key.specs.Names.{declared_at};
-ghost use Rattle.sl_key.specs.Table.{name_of, named_in, place_of, second_in};
-ghost use Rattle.sl_decl.specs.declared.declaration.Declaration.{Declaration as Declared};
+ghost use Rattle.std.specs.Prelude.{◌≡◌, ◌++◌, ◌∷◌, [], ℕ, List, length, Some, None, IfOk, OnOk, IsTrue, if◌then◌else◌};
+ghost use Rattle.std.specs.Str.{bytes_eq};
+ghost use Rattle.def_module.specs.DeclTree as trees;
+ghost use Rattle.std.specs.Option.{IfSome, option_copied, option_map};
+ghost use Rattle.def_slang.specs.Name.{is_name};
+ghost use Rattle.def_module.specs.Syntax.{Good};
+ghost use Rattle.def_syntax.specs.Syntax.{syntax_in};
+ghost use Rattle.sl_token.specs.View.{slice_of, token_in};
+ghost use Rattle.sl_tree.specs.DeclView.{decl_in, module_in};
+ghost use Rattle.sl_key.specs.Index.{IsIndex, IsNamed, number_in};
+ghost use Rattle.sl_key.specs.Names.{declared_at, decls_in, key_named, key_of, keys_of, name_of, named_in, path_in};
 
-use crate::path::Part;
+use crate::key::Key;
+use crate::path::{DeclPath, Part};
 use indexmap::IndexMap;
-use sl_base::{Name, NoMemory, Place};
-use sl_decl::{Declaration, Tree};
+use sl_base::{Bytes, Name, NameRefusal, NoMemory};
+use sl_scopes::text_at;
+use sl_token::Token;
+use sl_tree::{DeclTree, ModuleTree};
 use sqlite_items::at;
 use std::alloc::Global;
 use std::marker::Model;
 
-/// The declarations of a module, which contracts see as the module's tree. No two have the same name,
-/// and each is found by its name.
+/// The declarations of a module of which nothing is told. Contracts see them as the module's text, which has one tree.
+/// Each is found by its name.
 #[derive(Drop)]
 pub struct Declarations {
-    tree: Tree,
+    source: Bytes,
+    tree: ModuleTree,
     numbers: IndexMap<Vec<u8>, usize>,
 }
 
 impl Model for Declarations {
-    ghost use Rattle.sl_decl.specs.contracts.declaration.Tree as written;
+    ghost use Rattle.std.specs.Prelude.{◌≡◌, List, ℕ};
+    ghost use Rattle.def_module.specs.Syntax.{Good};
+    ghost use Rattle.def_syntax.specs.Syntax.{syntax_in};
+    ghost use Rattle.sl_tree.specs.DeclView.{module_in};
     ghost use Rattle.sl_key.specs.Index.{IsIndex};
-    ghost use Rattle.sl_decl.specs.declared.declaration.Tree.{Tree};
 
-    ghost Value = { Tree };
+    ghost Value = { List ℕ };
 
-    ghost coded = { written.the_row.coded };
+    ghost view = { λ d. d.source };
 
-    ghost view = { λ d. d.tree };
-
-    ghost invariant = { λ d. IsIndex 0 d.tree.declarations d.numbers.entries };
-}
-
-/// Why a tree has no table of declarations.
-#[derive(Debug, Drop)]
-pub enum TableRefusal {
-    /// A declaration has a name that one before it has: the first such declaration's name and its place.
-    Twice { name: Name, at: Place },
-    /// Memory ran out.
-    NoMemory,
-}
-
-impl From<NoMemory> for TableRefusal {
-    ghost use Rattle.std.specs.Prelude.{◌≡◌};
-    ghost use Rattle.sl_key.specs.declared.declarations.TableRefusal.TheVariants.{NoMemory};
-
-    ghost from_gives = { λ _ refusal. refusal ≡ NoMemory };
-
-    fn from(_error: NoMemory) -> TableRefusal {
-        TableRefusal::NoMemory
-    }
+    ghost invariant = { λ d. (syntax_in d.source ≡ Good (module_in d.source d.tree))
+        × IsIndex (module_in d.source d.tree).decls d.numbers.entries };
 }
 
 impl Declarations {
-    ghost use Rattle.sl_key.specs.Refused.{TellsSecond};
-
-    /// The declarations of a tree. `Twice` comes exactly where two have one name.
-    pub fn new(alloc: Global, tree: Tree) -> Result<Declarations, TableRefusal>
-        ensures ok { IfOk result (λ d. d ≡ tree) }
-        ensures distinct { OnOk result (second_in tree.declarations ≡ None) }
-        ensures err { IfErr result (TellsSecond tree.declarations) }
+    /// The declarations of a text, of which this is the tree.
+    pub fn new(alloc: Global, source: Bytes, tree: ModuleTree) -> Result<Declarations, NoMemory>
+        requires { syntax_in source ≡ Good (module_in source tree) }
+        ensures { IfOk result (λ d. d ≡ source) }
     {
         let mut numbers = IndexMap::new(alloc);
-        for declaration in tree.declarations.as_slice() {
-            enter(alloc, &mut numbers, declaration)?;
+        for (number, decl) in tree.decls.as_slice().iter().enumerate() {
+            enter(alloc, source.as_slice(), &mut numbers, number, decl)?;
         }
-        Ok(Declarations { tree, numbers })
+        Ok(Declarations {
+            source,
+            tree,
+            numbers,
+        })
     }
 
-    /// The declarations in order.
-    pub fn as_slice(&self) -> &[Declaration]
-        ensures { result.now ≡ self.now.declarations }
+    /// The bytes of a token of the module.
+    pub fn text(&self, token: Token) -> &[u8]
+        ensures { result.now ≡ slice_of self.now token.span }
     {
-        self.tree.declarations.as_slice()
+        text_at(self.source.as_slice(), token.span)
     }
 
-    /// The declaration of a name.
-    pub fn find(&self, name: &Name) -> Option<&Declaration>
-        ensures { option_copied result ≡ named_in self.now.declarations name.now }
+    /// The declaration to which a path leads from the module.
+    pub fn find_at(&self, parts: &[Part]) -> Option<&DeclTree>
+        ensures { option_map (decl_in self.now) (option_copied result) ≡ declared_at (decls_in self.now) parts.now }
     {
-        let declarations = self.tree.declarations.as_slice();
-        match self.numbers.get(name.bytes()) {
-            Some(number) => at(declarations, *number),
+        match parts {
+            [part] if part.nth == 0 => self.find(part.name.bytes()),
+            _ => None,
+        }
+    }
+
+    /// The key for which a name stands in the module.
+    pub fn key_named(
+        &self,
+        alloc: Global,
+        module: &Name,
+        name: &[u8],
+    ) -> Result<Option<Key>, NoMemory>
+        ensures { IfOk result (λ key. key ≡ key_named module.now (decls_in self.now) name.now) }
+    {
+        match self.find(name) {
+            Some(decl) => self.key_of(alloc, module, decl),
+            None => Ok(None),
+        }
+    }
+
+    /// Puts the keys of the declarations behind others, in order.
+    pub fn add_keys(
+        &self,
+        alloc: Global,
+        module: &Name,
+        keys: &mut Vec<Key>,
+    ) -> Result<(), NoMemory>
+        ensures { OnOk result (keys.new.items ≡ keys.old.items ++ keys_of module.now (decls_in self.now)) }
+    {
+        for decl in self.tree.decls.as_slice() {
+            if let Some(key) = self.key_of(alloc, module, decl)? {
+                keys.push(key)?;
+            }
+        }
+        Ok(())
+    }
+
+    // The declaration of a name.
+    fn find(&self, name: &[u8]) -> Option<&DeclTree>
+        ensures value { option_map (decl_in self.now) (option_copied result) ≡ named_in (decls_in self.now) name.now }
+        ensures named { IfSome (option_copied result) (λ decl. IsNamed (decl_in self.now decl)) }
+    {
+        match self.numbers.get(name) {
+            Some(number) => at(self.tree.decls.as_slice(), *number),
             None => None,
         }
     }
 
-    /// The declaration to which a path leads from the module.
-    pub fn find_at(&self, parts: &[Part]) -> Option<&Declaration>
-        ensures { option_copied result ≡ declared_at self.now parts.now }
+    // The key of a declaration, if it has one.
+    fn key_of(&self, alloc: Global, module: &Name, decl: &DeclTree) -> Result<Option<Key>, NoMemory>
+        requires { IsNamed (decl_in self.now decl.now) }
+        ensures { IfOk result (λ key. key ≡ key_of module.now (decl_in self.now decl.now)) }
     {
-        match parts {
-            [part] if part.nth == 0 => self.find(&part.name),
-            _ => None,
+        match decl {
+            DeclTree::Alias(alias) => Ok(Some(Key::Alias(self.path(alloc, module, alias.name)?))),
+            DeclTree::Const(constant) => {
+                Ok(Some(Key::Const(self.path(alloc, module, constant.name)?)))
+            }
+            DeclTree::Import(_)
+            | DeclTree::Struct(_)
+            | DeclTree::Interface(_)
+            | DeclTree::Extension(_)
+            | DeclTree::Buffer(_)
+            | DeclTree::Function(_) => Ok(None),
+        }
+    }
+
+    // The path of the declaration of a name at the top of the module.
+    fn path(&self, alloc: Global, module: &Name, name: Token) -> Result<DeclPath, NoMemory>
+        requires { IsTrue (is_name (slice_of self.now name.span)) }
+        ensures { IfOk result (λ path. path ≡ path_in module.now (slice_of self.now name.span)) }
+    {
+        match Name::new(alloc, self.text(name)) {
+            Ok(name) => DeclPath::top(alloc, module, &name),
+            Err(NameRefusal::NoMemory) => Err(NoMemory),
+            Err(NameRefusal::NotAName) => unreachable!(),
         }
     }
 }
 
-// Puts the name of a declaration behind those of the declarations before it.
+// Puts the name of a declaration behind those of the declarations before it, if none of them has it.
 fn enter(
     alloc: Global,
+    source: &[u8],
     numbers: &mut IndexMap<Vec<u8>, usize>,
-    declaration: &Declaration,
-) -> Result<(), TableRefusal>
-    ensures ok { OnOk result ((before : List Declared) → IsIndex 0 before numbers.old.entries →
-        Enters before declaration.now numbers.new.entries) }
-    ensures err { IfErr result (λ refusal. (before : List Declared) →
-        IsIndex 0 before numbers.old.entries → TellsTwice before declaration.now refusal) }
+    number: usize,
+    decl: &DeclTree,
+) -> Result<(), NoMemory>
+    ensures { OnOk result ((before : List trees.DeclTree) → length before ≡ number → IsIndex before numbers.old.entries
+        → IsIndex (before ++ decl_in source.now decl.now ∷ []) numbers.new.entries) }
 {
-    let name = name_of(declaration);
-    match numbers.get(name.bytes()) {
-        Some(_) => Err(TableRefusal::Twice {
-            name: name.copy(alloc)?,
-            at: place_of(declaration),
-        }),
-        None => Ok(put(alloc, numbers, name)?),
+    let Some(token) = name_of(decl) else {
+        return Ok(());
+    };
+    let name = text_at(source, token.span);
+    match numbers.get(name) {
+        Some(_) => Ok(()),
+        None => put(alloc, numbers, name, number),
     }
 }
 
 // Puts a name that is not there behind the others.
-fn put(alloc: Global, numbers: &mut IndexMap<Vec<u8>, usize>, name: &Name) -> Result<(), NoMemory>
-    ensures { OnOk result (InsertsName numbers.old.entries name.now numbers.new.entries) }
+fn put(
+    alloc: Global,
+    numbers: &mut IndexMap<Vec<u8>, usize>,
+    name: &[u8],
+    number: usize,
+) -> Result<(), NoMemory>
+    requires { number_in name.now numbers.old.entries ≡ None }
+    ensures { OnOk result ((other : List ℕ) → number_in other numbers.new.entries
+        ≡ (if bytes_eq name.now other then Some number else number_in other numbers.old.entries)) }
 {
-    let number = numbers.len();
-    let key = Vec::from_slice(alloc, name.bytes())?;
+    let key = Vec::from_slice(alloc, name)?;
     numbers.insert(key, number)?;
     Ok(())
 }
 
-// The name of a declaration.
-fn name_of(declaration: &Declaration) -> &Name
-    ensures { result.now ≡ name_of declaration.now }
+/// The name that a declaration declares in its module, if it declares one.
+pub fn name_of(decl: &DeclTree) -> Option<Token>
+    ensures { (source : List ℕ) → option_map (token_in source) result ≡ name_of (decl_in source decl.now) }
 {
-    match declaration {
-        Declaration::Alias(alias) => &alias.name,
-        Declaration::Const(constant) => &constant.name,
-    }
-}
-
-/// The place of a declaration's name.
-pub fn place_of(declaration: &Declaration) -> Place
-    ensures { result ≡ place_of declaration.now }
-{
-    match declaration {
-        Declaration::Alias(alias) => alias.at,
-        Declaration::Const(constant) => constant.at,
+    match decl {
+        DeclTree::Import(_) | DeclTree::Extension(_) => None,
+        DeclTree::Alias(alias) => Some(alias.name),
+        DeclTree::Const(constant) => Some(constant.name),
+        DeclTree::Struct(structure) => Some(structure.name),
+        DeclTree::Interface(interface) => Some(interface.name),
+        DeclTree::Buffer(buffer) => Some(buffer.name),
+        DeclTree::Function(function) => Some(function.name),
     }
 }

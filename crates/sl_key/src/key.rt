@@ -5,7 +5,6 @@ ghost use Rattle.std.specs.Cmp.{partial_equiv_from_equiv};
 
 use crate::path::{DeclPath, Part};
 use sl_base::{Name, NoMemory};
-use sl_decl::Declaration;
 use std::alloc::Global;
 use std::cmp::Ordering;
 
@@ -23,7 +22,6 @@ pub enum Key {
 }
 
 impl Key {
-    ghost use Rattle.sl_key.specs.Names.{key_of};
     ghost use Rattle.sl_key.specs.Order.{kind_of, module_of, parts_of};
 
     /// The module of the key.
@@ -43,18 +41,6 @@ impl Key {
         match self {
             Key::Syntax(_) | Key::Imports(_) => &[],
             Key::Alias(path) | Key::Const(path) => path.parts.as_slice(),
-        }
-    }
-
-    /// The key of a declaration of a module.
-    pub fn of(alloc: Global, module: &Name, declaration: &Declaration) -> Result<Key, NoMemory>
-        ensures { IfOk result (λ key. key ≡ key_of module.now declaration.now) }
-    {
-        match declaration {
-            Declaration::Alias(alias) => Ok(Key::Alias(DeclPath::top(alloc, module, &alias.name)?)),
-            Declaration::Const(constant) => {
-                Ok(Key::Const(DeclPath::top(alloc, module, &constant.name)?))
-            }
         }
     }
 

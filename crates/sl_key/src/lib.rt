@@ -11,13 +11,13 @@ mod shared;
 mod value;
 
 pub use answer::{Answer, Facts, Good, copy_diag};
-pub use declarations::{Declarations, TableRefusal, place_of};
+pub use declarations::{Declarations, name_of};
 pub use flow::Flow;
 pub use key::Key;
 pub use path::{DeclPath, Part};
 pub use request::{Reply, Request, Term};
 pub use shared::Shared;
-pub use value::{Ty, Value};
+pub use value::{Arithmetic, Ty, Value};
 
 #[cfg(test)]
 mod tests;

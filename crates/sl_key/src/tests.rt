@@ -1,27 +1,32 @@
-use crate::{Answer, DeclPath, Declarations, Key, Shared, TableRefusal};
+//! The order of keys, and copies of answers.
+
+use crate::{Answer, DeclPath, Key};
 use qe_rules::Cycle;
-use sl_base::{Bytes, Diag, List, Name, Place, Site};
-use sl_decl::{AliasTree, Declaration, Tree, TypeTree};
+use sl_base::{Bytes, Diag, List, Name, Site};
 use std::alloc::Global;
 use std::process::Abort;
 use std::test::Fail;
 
+/// The name of a text.
 fn name_of(alloc: Global, text: &str) -> Result<Name, Fail> {
     Ok(Name::new(alloc, text.as_bytes())?)
 }
 
+/// The key of an alias at the top of a module.
 fn alias_key(alloc: Global, module: &str, name: &str) -> Result<Key, Fail> {
     let module = name_of(alloc, module)?;
     let name = name_of(alloc, name)?;
     Ok(Key::Alias(DeclPath::top(alloc, &module, &name)?))
 }
 
+/// The key of a constant at the top of a module.
 fn const_key(alloc: Global, module: &str, name: &str) -> Result<Key, Fail> {
     let module = name_of(alloc, module)?;
     let name = name_of(alloc, name)?;
     Ok(Key::Const(DeclPath::top(alloc, &module, &name)?))
 }
 
+/// Stops the test unless one key stands before another.
 fn expect_less(rt: &impl Abort, less: &Key, greater: &Key) {
     assert!(rt; less < greater, "{less:?} {greater:?}");
 }
@@ -56,59 +61,6 @@ fn keys_of_a_path_are_ordered_by_their_kinds(rt: HostRuntime) -> Result<(), Fail
     Ok(())
 }
 
-// An alias of `int` with its name in a line of its own.
-fn declared(alloc: Global, name: &str, line: u32) -> Result<Declaration, Fail> {
-    let at = Place { line, column: 11 };
-    let target = TypeTree::Int { at };
-    let name = name_of(alloc, name)?;
-    Ok(Declaration::Alias(AliasTree { name, at, target }))
-}
-
-fn tree_of(alloc: Global, names: [&str; 3]) -> Result<Tree, Fail> {
-    let [first, second, third] = names;
-    let mut declarations = List::new(alloc);
-    declarations.push(declared(alloc, first, 1)?)?;
-    declarations.push(declared(alloc, second, 2)?)?;
-    declarations.push(declared(alloc, third, 3)?)?;
-    Ok(Tree { declarations })
-}
-
-fn line_of(found: Option<&Declaration>) -> u32 {
-    match found {
-        Some(Declaration::Alias(alias)) => alias.at.line,
-        Some(Declaration::Const(constant)) => constant.at.line,
-        None => 0,
-    }
-}
-
-#[test]
-fn declarations_are_found_by_their_names(rt: HostRuntime) -> Result<(), Fail> {
-    let alloc = rt.alloc();
-    match Declarations::new(alloc, tree_of(alloc, ["A", "B", "C"])?) {
-        Ok(table) => {
-            assert_eq!(rt; table.as_slice().len(), 3);
-            assert_eq!(rt; line_of(table.find(&name_of(alloc, "B")?)), 2);
-            assert_eq!(rt; line_of(table.find(&name_of(alloc, "D")?)), 0);
-            Ok(())
-        }
-        Err(refusal) => panic!(rt; "{refusal:?}"),
-    }
-}
-
-#[test]
-fn the_first_second_declaration_of_a_name_is_told(rt: HostRuntime) -> Result<(), Fail> {
-    let alloc = rt.alloc();
-    match Declarations::new(alloc, tree_of(alloc, ["A", "B", "B"])?) {
-        Err(TableRefusal::Twice { name, at }) => {
-            assert_eq!(rt; name.bytes(), b"B".as_slice());
-            assert_eq!(rt; at.line, 3);
-            Ok(())
-        }
-        Err(TableRefusal::NoMemory) => panic!(rt; "memory ran out"),
-        Ok(_) => panic!(rt; "a table with a name twice"),
-    }
-}
-
 #[test]
 fn the_copy_of_a_circular_answer_tells_the_cycle(rt: HostRuntime) -> Result<(), Fail> {
     let alloc = rt.alloc();
@@ -121,6 +73,7 @@ fn the_copy_of_a_circular_answer_tells_the_cycle(rt: HostRuntime) -> Result<(), 
     Ok(())
 }
 
+/// That no module has the name `q`.
 fn no_module(alloc: Global) -> Result<Diag, Fail> {
     let mut args = List::new(alloc);
     args.push(Bytes::from_slice(alloc, b"q")?)?;

@@ -15,3 +15,11 @@ pub enum Value {
     Int(i32),
     Uint(u32),
 }
+
+/// An operator on integers.
+#[derive(Clone, Copy, Debug, PartialEq, Eq)]
+pub enum Arithmetic {
+    Add,
+    Subtract,
+    Multiply,
+}

@@ -1,5 +1,7 @@
+//! What `check` writes.
+
 use crate::Status;
-use crate::tests::{Ended, Faults, NO_FAULTS, expect_ending, run_over};
+use crate::tests::{Ended, FIRST, Faults, NO_FAULTS, expect_ending, run_over};
 use sl_base::{Bytes, List, Name};
 use sl_roots::MemoryRoot;
 use std::alloc::Global;
@@ -54,22 +56,10 @@ fn modules_without_tokens_are_loaded(rt: HostRuntime) -> Result<(), Fail> {
     Ok(())
 }
 
-#[test]
-fn other_modules_are_not_built(rt: HostRuntime) -> Result<(), Fail> {
+/// Checks the module `m` of these bytes, which is told so.
+fn expect_bytes(rt: &(impl Abort + AllocGlobal), text: &[u8], told: &str) -> Result<(), Fail> {
     let alloc = rt.alloc();
-    let told = b"1:1 load failed 1\nm:1:1: error E100: form not built yet\nworked 1\n";
-    for text in [b"\n ;".as_slice(), b"struct S {}", b"/* open", b"\x80"] {
-        let near = root_of(alloc, Some(("m", text)), &[])?;
-        let ended = check(alloc, "m", near, root_of(alloc, None, &[])?, &[])?;
-        expect_ending(&rt, &ended, Status::Diagnosed, told, "");
-    }
-    Ok(())
-}
-
-/// Checks the module `m` of this text, which is told so.
-fn expect_told(rt: &(impl Abort + AllocGlobal), text: &str, told: &str) -> Result<(), Fail> {
-    let alloc = rt.alloc();
-    let near = root_of(alloc, Some(("m", text.as_bytes())), &[])?;
+    let near = root_of(alloc, Some(("m", text)), &[])?;
     let ended = check(alloc, "m", near, root_of(alloc, None, &[])?, &[])?;
     let made = told.starts_with("1:1 load ok");
     let status = if made {
@@ -78,6 +68,31 @@ fn expect_told(rt: &(impl Abort + AllocGlobal), text: &str, told: &str) -> Resul
         Status::Diagnosed
     };
     expect_ending(rt, &ended, status, told.as_bytes(), "");
+    Ok(())
+}
+
+/// Checks the module `m` of this text, which is told so.
+fn expect_told(rt: &(impl Abort + AllocGlobal), text: &str, told: &str) -> Result<(), Fail> {
+    expect_bytes(rt, text.as_bytes(), told)
+}
+
+#[test]
+fn what_is_told_of_a_text_is_told_alone(rt: HostRuntime) -> Result<(), Fail> {
+    let rows: [(&[u8], &str); 6] = [
+        (b"\x80", "m:1:1: error E101: unexpected byte 80"),
+        (b"/* open", "m:1:1: error E102: comment not closed"),
+        (b"\n ;", "m:2:2: error E110: unexpected ;"),
+        (
+            b"typealias A = ",
+            "m:1:15: error E110: unexpected end of file",
+        ),
+        (b"struct S {}", "m:1:1: error E100: form not built yet"),
+        (FIRST.as_bytes(), "m:1:1: error E100: form not built yet"),
+    ];
+    for (text, told) in rows {
+        let told = format!(in rt.alloc(); "1:1 load failed 1\n{told}\nworked 1\n")?;
+        expect_bytes(&rt, text, told.as_str())?;
+    }
     Ok(())
 }
 
@@ -141,7 +156,10 @@ fn diagnostics_are_told_in_the_order_of_places(rt: HostRuntime) -> Result<(), Fa
     expect_told(
         &rt,
         "static const int B = A;\nstatic const int C = true;\nstatic const int A = X;",
-        "1:1 load failed 2\nm:2:22: error E302: cannot convert bool to int\nm:3:22: error E301: unknown name X\nworked 5\n",
+        "1:1 load failed 2\n\
+         m:2:22: error E302: cannot convert bool to int\n\
+         m:3:22: error E301: unknown name X\n\
+         worked 5\n",
     )
 }
 
@@ -168,7 +186,7 @@ fn brackets_nest_64_deep(rt: HostRuntime) -> Result<(), Fail> {
     expect_told(
         &rt,
         text.as_str(),
-        "1:1 load failed 1\nm:1:1: error E100: form not built yet\nworked 1\n",
+        "1:1 load failed 1\nm:1:86: error E111: nesting deeper than 64\nworked 1\n",
     )
 }
 

@@ -11,7 +11,7 @@ use std::sync::ledger::{Blank, Ledger};
 use std::test::Fail;
 
 /// A module that puts 1 into each element of `b`.
-const FIRST: &str = "RWStructuredBuffer<int> b;
+pub const FIRST: &str = "RWStructuredBuffer<int> b;
 [shader(\"compute\")]
 [numthreads(1,1,1)]
 void main(uint3 id : SV_DispatchThreadID)

@@ -1,4 +1,0 @@
-pub mod Form
-pub mod Lexed
-pub mod Parsed
-pub mod Laws

@@ -1,6 +1,0 @@
-pub mod Cutting
-pub mod Ending
-pub mod Fitting
-pub mod Joining
-pub mod Numerals
-pub mod Parts

@@ -1,4 +1,0 @@
--- What functions inside promise each other.
-pub mod Tokens
-pub mod Stacks
-pub mod Parts
