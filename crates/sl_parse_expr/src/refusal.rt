@@ -1,15 +1,14 @@
 //! Why a part of a source is refused.
 
-ghost use Rattle.std.specs.Prelude.{◌≡◌, ℕ, List, IfOk};
+ghost use Rattle.std.specs.Prelude.{◌≡◌, List, IfOk};
 ghost use Rattle.def_tree.specs.Fault.{fault_at, named_by};
 ghost use Rattle.sl_token.specs.View.{kind_of, token_in, slice_of};
 ghost use Rattle.sl_parse_expr.specs.Parts.{Tells, TellsUnread};
 
 use crate::place::UNEXPECTED;
-use crate::signs::text_at;
 use crate::source::Unread;
 use sl_base::{Bytes, List, NoMemory, Place};
-use sl_token::{Kind, Span, Token};
+use sl_token::{Kind, Span, Token, text_at};
 use std::alloc::Global;
 
 /// Why a part of a source was not made a tree.

@@ -2,13 +2,13 @@
 
 ghost use Rattle.std.specs.Prelude.{◌≡◌, [], ◌∷◌};
 ghost use Rattle.def_tree.specs.Symbol.{symbol};
-ghost use Rattle.sl_token.specs.View.{token_in, tokens_in, slice_of};
+ghost use Rattle.sl_token.specs.View.{token_in, tokens_in};
 ghost use Rattle.sl_parse_expr.specs.Signs.{begins_text, ends, is_text, lead_in, numbers, texts};
 ghost use Rattle.def_reading.specs.TypeAhead.{names};
 ghost use Rattle.def_reading.specs.TypeReading as reading;
 ghost use Rattle.def_tree.specs.TypeTree as types;
 
-use sl_token::{Kind, Span, Token};
+use sl_token::{Kind, Token, text_at};
 use sl_tree::TypeWord;
 
 /// What begins a type.
@@ -17,16 +17,6 @@ pub enum Lead {
     Word(TypeWord),
     Name,
     Neither,
-}
-
-/// The bytes of a source at a span, of which no more are taken than there are.
-pub fn text_at(source: &[u8], span: Span) -> &[u8]
-    ensures { result.now ≡ slice_of source.now span }
-{
-    let start = (span.start as usize).min(source.len());
-    let behind = &source[start..];
-    let many = span.end.saturating_sub(span.start) as usize;
-    &behind[..many.min(behind.len())]
 }
 
 /// Whether a token is a mark or a keyword of this text.

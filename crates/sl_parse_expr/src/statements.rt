@@ -17,9 +17,8 @@ ghost use Rattle.sl_parse_expr.specs.Settling.{is_short, opening_in};
 use crate::either::Either;
 use crate::nesting::Nesting;
 use crate::place::{Reach, Told, is_too_deep};
-use crate::signs::text_at;
 use crate::source::{Here, Source, Unread};
-use sl_token::{Kind, Token};
+use sl_token::{Kind, Token, text_at};
 use sl_tree::{ExprTree, SimpleTree, StartTree, StmtTree};
 use sqlite_items::{Boxed, Items};
 

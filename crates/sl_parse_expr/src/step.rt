@@ -22,11 +22,10 @@ use crate::closing::{bound, whole};
 use crate::frames::Frames;
 use crate::machine::{Around, Mode, Step, stands};
 use crate::place::Place;
-use crate::signs::text_at;
 use crate::touching::sign_at;
-use crate::words::{Behind, Start, behind_of, operator_of, start_of};
+use crate::words::{Behind, behind_of, operator_of, start_of};
 use sl_base::NoMemory;
-use sl_token::{Kind, Token};
+use sl_token::{Kind, Token, text_at};
 use sl_tree::ExprTree;
 
 /// The sign behind operands that a token is.

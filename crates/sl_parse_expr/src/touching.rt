@@ -6,8 +6,8 @@ ghost use Rattle.def_tree.specs.Symbol.{symbol};
 ghost use Rattle.sl_token.specs.View.{token_in, tokens_in};
 ghost use Rattle.sl_parse_expr.specs.Joining.{joins_text};
 
-use crate::signs::{is_sign, text_at};
-use sl_token::{Kind, Token};
+use crate::signs::is_sign;
+use sl_token::{Kind, Token, text_at};
 
 /// The text of the sign with which tokens begin, as expressions read it.
 pub fn sign_at<'a>(source: &'a [u8], tokens: &[Token]) -> &'a [u8]

@@ -10,8 +10,7 @@ ghost use Rattle.sl_tree.specs.DeclView.{decl_in, module_in};
 ghost use Rattle.sl_tree.specs.View.{expr_in, operator_of, type_in, word_of};
 
 use crate::first::decl_token;
-use crate::source::text_at;
-use sl_token::Token;
+use sl_token::{Token, text_at};
 use sl_tree::{DeclTree, ExprTree, ModuleTree, Operator, TypeTree, TypeWord};
 
 /// The first token of the first declaration with a form that is not checked yet, if there is one.

@@ -9,13 +9,11 @@ mod early;
 mod first;
 mod scope;
 mod search;
-mod source;
 mod statements;
 mod twice;
 
 pub use built::{not_built, small_number};
 pub use first::decl_token;
-pub use source::text_at;
 pub use twice::declared_twice;
 
 #[cfg(test)]

@@ -1,6 +1,6 @@
 //! Which name of a scope clashes with one before it.
 
-ghost use Rattle.std.specs.Prelude.{◌≡◌, ℕ, List, ◌++◌, ◌∷◌, [], map, None, Some, Option, false, OnOk, IfErr};
+ghost use Rattle.std.specs.Prelude.{◌≡◌, ℕ, List, ◌++◌, ◌∷◌, [], map, None, Some, false, OnOk, IfErr};
 ghost use Rattle.std.specs.List.{list_any};
 ghost use Rattle.std.specs.Map.{update};
 ghost use Rattle.std.specs.Str.{bytes_eq};
@@ -12,8 +12,8 @@ ghost use Rattle.sl_scopes.specs.Seen.{Notes, TellsClash, seen_in};
 
 use crate::declared::Declared;
 use crate::early::Early;
-use crate::source::text_at;
 use sl_base::NoMemory;
+use sl_token::text_at;
 use std::alloc::Global;
 use std::collections::BTreeMap;
 

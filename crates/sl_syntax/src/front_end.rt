@@ -11,8 +11,8 @@ ghost use Rattle.sl_syntax.specs.Telling.{IsTold, TellsSyntax};
 use crate::refusal::SyntaxRefusal;
 use sl_base::{Bytes, List, NoMemory};
 use sl_parse_decl::parse;
-use sl_scopes::{declared_twice, not_built, text_at};
-use sl_token::{Token, lex};
+use sl_scopes::{declared_twice, not_built};
+use sl_token::{Token, lex, text_at};
 use sl_tree::ModuleTree;
 use std::alloc::Global;
 

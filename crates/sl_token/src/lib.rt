@@ -13,7 +13,7 @@ mod verdict;
 pub use keyword::is_keyword;
 pub use lexer::{LexRefusal, lex};
 pub use number::{Number, NumberType, number_of};
-pub use token::{Kind, Span, Token, Tokens, text_of};
+pub use token::{Kind, Span, Token, Tokens, text_at};
 
 #[cfg(test)]
 mod tests;

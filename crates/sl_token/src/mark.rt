@@ -1,6 +1,6 @@
 //! The marks.
 
-ghost use Rattle.std.specs.Prelude.{◌≡◌, find, length, map, nat_eq};
+ghost use Rattle.std.specs.Prelude.{◌≡◌, find, length, nat_eq};
 ghost use Rattle.std.specs.List.{starts_with};
 ghost use Rattle.std.specs.Option.{option_copied, option_map};
 ghost use Rattle.def_token.specs.Mark.{marks};

@@ -1,14 +1,14 @@
 //! Numbers.
 
-ghost use Rattle.std.specs.Prelude.{◌≡◌, ◌<◌, ◌≤◌, ◌^◌, nat_le, length, map, find, IfSome, IfNone, IsTrue};
+ghost use Rattle.std.specs.Prelude.{◌≡◌, ◌<◌, ◌≤◌, ◌^◌, nat_le, length, find, IfSome, IfNone, IsTrue};
 ghost use Rattle.std.specs.Char.{is_ascii_digit, is_ascii_hexdigit};
 ghost use Rattle.std.specs.List.{list_all, prefix_len};
 ghost use Rattle.std.specs.Option.{option_copied, option_map};
 ghost use Rattle.std.specs.Str.{bytes_eq};
 ghost use Rattle.std.specs.Str.Parse.{digits_value};
 ghost use Rattle.def_token.specs.Number as definition;
-ghost use Rattle.sl_token.specs.Reading.{base_in, range_in, ranges_in, suffix_in};
-ghost use Rattle.sl_token.specs.View.{number_in, type_of};
+ghost use Rattle.sl_token.specs.Reading.{base_in, ranges_in, suffix_in};
+ghost use Rattle.sl_token.specs.View.{number_in};
 
 /// The type of a number.
 #[derive(Clone, Copy, Debug, PartialEq, Eq)]

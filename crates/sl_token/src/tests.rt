@@ -2,7 +2,7 @@ ghost use Rattle.std.specs.Prelude.{IfOk, length};
 ghost use Rattle.std.specs.List.{All};
 ghost use Rattle.sl_token.specs.View.{IsWithin};
 
-use crate::{Kind, LexRefusal, Number, NumberType, Tokens, is_keyword, lex, number_of, text_of};
+use crate::{Kind, LexRefusal, Number, NumberType, Tokens, is_keyword, lex, number_of, text_at};
 use sl_base::{Bytes, Place};
 use std::process::Abort;
 use std::test::Fail;
@@ -287,7 +287,7 @@ fn expect_tokens(
     assert_eq!(rt; tokens.len(), wanted.len());
     for (token, (kind, text, line, column)) in tokens.as_slice().iter().zip(wanted) {
         assert_eq!(rt; token.kind, *kind, "{text}");
-        assert_eq!(rt; text_of(source, token.span), text.as_bytes(), "{text}");
+        assert_eq!(rt; text_at(source, token.span), text.as_bytes(), "{text}");
         assert_eq!(rt;
             token.place,
             Place {
@@ -309,7 +309,7 @@ fn expect_texts(
     let tokens = tokens_of(rt, source)?;
     assert_eq!(rt; tokens.len(), wanted.len() + 1);
     for (token, text) in tokens.as_slice().iter().zip(wanted) {
-        assert_eq!(rt; text_of(source, token.span), text.as_bytes(), "{text}");
+        assert_eq!(rt; text_at(source, token.span), text.as_bytes(), "{text}");
     }
     Ok(())
 }
@@ -320,7 +320,7 @@ fn expect_alone(rt: &(impl Abort + AllocGlobal), source: &[u8], kind: Kind) -> R
     assert_eq!(rt; tokens.len(), 2);
     let token = &tokens.as_slice()[0];
     assert_eq!(rt; token.kind, kind);
-    assert_eq!(rt; text_of(source, token.span), source);
+    assert_eq!(rt; text_at(source, token.span), source);
     assert_eq!(rt; token.place, Place { line: 1, column: 1 });
     assert_eq!(rt; tokens.as_slice()[1].kind, Kind::End);
     Ok(())

@@ -1,7 +1,7 @@
 //! Tokens.
 
-ghost use Rattle.std.specs.Prelude.{◌≡◌, length};
-ghost use Rattle.sl_token.specs.View.{IsWithin, slice_of};
+ghost use Rattle.std.specs.Prelude.{◌≡◌};
+ghost use Rattle.sl_token.specs.View.{slice_of};
 
 use sl_base::{List, Place};
 
@@ -40,10 +40,12 @@ pub struct Token {
 /// The tokens of a source in order, of which the last one alone is its end.
 pub type Tokens = List<Token>;
 
-/// The bytes of a source at a span, as those of a token.
-pub fn text_of(source: &[u8], span: Span) -> &[u8]
-    requires { IsWithin (length source.now) span }
+/// The bytes of a source at a span, of which no more are taken than there are.
+pub fn text_at(source: &[u8], span: Span) -> &[u8]
     ensures { result.now ≡ slice_of source.now span }
 {
-    &source[span.start as usize..span.end as usize]
+    let start = (span.start as usize).min(source.len());
+    let behind = &source[start..];
+    let many = span.end.saturating_sub(span.start) as usize;
+    &behind[..many.min(behind.len())]
 }

@@ -1,6 +1,6 @@
 //! Parts of declarations as text: tokens, types, words and parameters.
 
-use sl_token::{Span, Token};
+use sl_token::{Token, text_at};
 use sl_tree::{
     AccessTree, AccessWord, ArgTree, BlockTree, ExprTree, ModeTree, ModeWord, ParamTree, TypeTree,
     WhereTree,
@@ -16,14 +16,6 @@ pub struct Writer<'a> {
     pub text: String,
     /// Whether the column of each token is written behind it.
     pub columns: bool,
-}
-
-// The bytes of a source at a span.
-fn text_at(source: &[u8], span: Span) -> &[u8] {
-    let start = (span.start as usize).min(source.len());
-    let behind = &source[start..];
-    let many = span.end.saturating_sub(span.start) as usize;
-    &behind[..many.min(behind.len())]
 }
 
 impl Writer<'_> {

@@ -1,7 +1,6 @@
 //! Trees as text. A form of several parts stands in square brackets; a group keeps its round ones.
 
-use crate::signs::text_at;
-use sl_token::Token;
+use sl_token::{Token, text_at};
 use sl_tree::{
     Assignment, Binding, Declarator, ExprTree, InitTree, LocalTree, Operator, SimpleTree,
     StartTree, Step, StmtTree, TypeTree, TypeWord, UnaryOperator,
