@@ -1,6 +1,6 @@
 //! Diagnostics are put in order.
 
-ghost use Rattle.std.specs.Prelude.{◌≡◌, IfOk};
+ghost use Rattle.std.specs.Prelude.{IfOk};
 ghost use Rattle.def_check.specs.Reply.{IsReplyOf, IsSortedOnce};
 
 use crate::told::Told;

@@ -1,6 +1,6 @@
 //! Types, values, and how values are converted and combined.
 
-ghost use Rattle.std.specs.Prelude.{◌≡◌, ℤ};
+ghost use Rattle.std.specs.Prelude.{◌≡◌};
 ghost use Rattle.def_check.specs.Values.{arithmetic_of, converted, int_result, mark_of, misfit_of, result_of};
 ghost use Rattle.def_check.specs.Values.{text_of, type_of, uint_result, width};
 ghost use Rattle.sl_tree.specs.View.{operator_of};

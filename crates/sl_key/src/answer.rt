@@ -1,6 +1,6 @@
 //! Answers.
 
-ghost use Rattle.std.specs.Prelude.{◌≡◌, ◌≢◌, [], length, IfOk, take};
+ghost use Rattle.std.specs.Prelude.{◌≡◌, IfOk};
 
 use crate::declarations::Declarations;
 use crate::key::Key;

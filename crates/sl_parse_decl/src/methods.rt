@@ -2,7 +2,6 @@
 
 ghost use Rattle.std.specs.Prelude.{Some, None};
 ghost use Rattle.std.specs.Option.{option_map};
-ghost use Rattle.def_decl_reading.specs.Form.{As, reads};
 ghost use Rattle.def_decl_reading.specs.MemberReading as forms;
 ghost use Rattle.def_module.specs.DeclTree as trees;
 ghost use Rattle.def_tree.specs.TypeTree as types;

@@ -1,6 +1,6 @@
 //! Declarations by their forms, and whole modules.
 
-ghost use Rattle.std.specs.Prelude.{◌≡◌, IfErr, IfOk, [], map};
+ghost use Rattle.std.specs.Prelude.{IfErr, IfOk, [], map};
 ghost use Rattle.std.specs.Option.{option_map};
 ghost use Rattle.def_decl_reading.specs.DeclReading as forms;
 ghost use Rattle.def_decl_reading.specs.Form.{Until, ends};
@@ -8,7 +8,6 @@ ghost use Rattle.def_module.specs.Entries.{module_entries};
 ghost use Rattle.def_module.specs.Module.{IsModule};
 ghost use Rattle.def_token.specs.Lexical.{HasTokens};
 ghost use Rattle.def_tree.specs.Fault.{IsRead};
-ghost use Rattle.def_tree.specs.Limits.{all_open};
 ghost use Rattle.sl_token.specs.View.{token_in, tokens_in};
 ghost use Rattle.sl_tree.specs.DeclView.{access_in, decl_in, module_in};
 ghost use Rattle.sl_parse_expr.specs.Nestings.{nesting_in};

@@ -1,5 +1,5 @@
 -- What is answered is exact where the reader on lists is.
-use Rattle.std.proofs.Common.{◌≡◌, ℕ, zero, suc, ◌+◌, ◌-◌, ◌<◌, ◌≤◌, List, [], ◌∷◌, length, drop, refl, sym, ap, subst, ◌∙◌, arith}
+use Rattle.std.proofs.Common.{◌≡◌, ℕ, zero, suc, ◌+◌, ◌-◌, ◌<◌, List, [], ◌∷◌, length, drop, refl, sym, ap, subst, ◌∙◌, arith}
 use Rattle.std.specs.Prelude.{Option, Some, None, Result, Ok, Err, IfOk, IfErr}
 use Rattle.std.specs.Option.{option_map}
 use Rattle.std.proofs.lemmas.List.{drop-map, length-drop, drop-drop}
@@ -10,7 +10,7 @@ use Rattle.def_reading.specs.Place as places
 use Rattle.def_reading.specs.Place.{At}
 use Rattle.def_reading.specs.Laws.{IsExact}
 use Rattle.def_reading.specs.Try.{Try, Reads, Stops, Reader, read_by}
-use Rattle.sl_token.specs.View.{place_of, token_in, tokens_in}
+use Rattle.sl_token.specs.View.{token_in, tokens_in}
 use Rattle.sl_parse_expr.specs.Parts.{Tells, no_token, TellsUnread, IsRefusedAt, Answers, IsReadTo, TellsFault}
 use Rattle.sl_parse_expr.specs.Seen.{place_in, reach_in, told_in}
 use Rattle.sl_parse_expr.specs.Settling as settling

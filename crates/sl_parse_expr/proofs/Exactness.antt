@@ -3,7 +3,6 @@ use Rattle.std.proofs.Common.{◌≡◌, ℕ, zero, suc, ◌<◌, List, [], ◌�
 use Rattle.std.specs.Prelude.{None, true}
 use Rattle.def_token.specs.Lexical.{Token, HasTokens, token_behind, tokens_among, mark_before}
 use Rattle.def_token.specs.Lexical as lexical
-use Rattle.def_tree.specs.ExprTree.{ExprTree}
 use Rattle.def_tree.specs.Limits.{Nesting, whole_entries, stmt_entries}
 use Rattle.def_tree.specs.Part.{IsExprPart, IsStmtPart}
 use Rattle.def_tree.specs.Symbol.{End, symbol}

@@ -3,7 +3,7 @@ use Rattle.std.proofs.Common.{◌≡◌, ℕ, List, [], ◌∷◌, ◌++◌, map
 use Rattle.std.specs.Prelude.{Some}
 use Rattle.std.proofs.lemmas.List.{map-append}
 use Rattle.def_tree.specs.ExprTree as tree
-use Rattle.def_tree.specs.ExprTree.{ExprTree, ExprTrees, MoreExprs}
+use Rattle.def_tree.specs.ExprTree.{ExprTree, MoreExprs}
 use Rattle.sl_token.specs.View.{token_in}
 use Rattle.sl_token.specs.declared.token.Token.{Token}
 use Rattle.sl_tree.proofs.Views.{expr_in-Group, expr_in-Conversion, expr_in-Call, expr_in-Index}

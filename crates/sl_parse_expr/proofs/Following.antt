@@ -6,7 +6,7 @@ use Rattle.def_token.specs.Lexical as lexical
 use Rattle.def_tree.specs.Limits.{Entry, plain}
 use Rattle.def_tree.specs.Symbol.{Symbol}
 use Rattle.def_reading.specs.Place as places
-use Rattle.def_reading.specs.Place.{At, advance, noted, reach_at, further}
+use Rattle.def_reading.specs.Place.{At, advance}
 use Rattle.def_reading.specs.Try.{Try, Reads, Stops, Reader, try_then, try_as, refused, choice, choice_by, token_then, up_to}
 use Rattle.sl_token.specs.View.{token_in, tokens_in}
 use Rattle.sl_token.specs.declared.token.Token.{Token}

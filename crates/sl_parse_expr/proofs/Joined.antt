@@ -15,7 +15,7 @@ use Rattle.sl_tree.specs.declared.types.TypeWord.{TypeWord}
 use Rattle.sl_parse_expr.specs.Framed.{frame_in}
 use Rattle.sl_parse_expr.specs.Joins.{binds, closes, join}
 use Rattle.def_reading.specs.Machine as machine
-use Rattle.def_reading.specs.Machine.{Held, held_by, bound, whole}
+use Rattle.def_reading.specs.Machine.{bound, whole}
 use Rattle.sl_parse_expr.specs.declared.frames.Frame.{Frame}
 use Rattle.sl_parse_expr.specs.declared.frames.Frame.TheVariants as frame
 

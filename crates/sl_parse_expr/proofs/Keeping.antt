@@ -4,7 +4,7 @@ use Rattle.def_tree.specs.ExprTree.{ExprTree as Tree}
 use Rattle.sl_tree.specs.View.{expr_in}
 use Rattle.sl_tree.specs.declared.expressions.ExprTree.{ExprTree}
 use Rattle.def_reading.specs.Machine as machine
-use Rattle.def_reading.specs.Machine.{Held, Step, On, Ends, Refused, bound, whole}
+use Rattle.def_reading.specs.Machine.{Held, Step, bound, whole}
 use Rattle.def_reading.specs.Plain.{plain_held, plain_step}
 use Rattle.def_reading.proofs.PlainSteps.{bound_plain, whole_plain}
 use Rattle.sl_parse_expr.specs.Framed.{frame_in, frames_in}

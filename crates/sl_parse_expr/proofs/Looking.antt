@@ -13,7 +13,7 @@ use Rattle.def_tree.specs.TypeTree.{TypeTrees}
 use Rattle.def_reading.specs.Machine as machine
 use Rattle.def_reading.specs.Machine.{On, Value, Expected, Step, nesting, name_by, step_at}
 use Rattle.def_reading.specs.Place as lists
-use Rattle.def_reading.specs.Place.{At, advance, Reach, reach_at, further}
+use Rattle.def_reading.specs.Place.{At, advance}
 use Rattle.def_reading.specs.Plain.{plain_step}
 use Rattle.def_reading.specs.TypeAhead.{Look, Found, Missing, found_then, leads_on, if_led, led_by, list_ahead, taken_ahead, type_ahead}
 use Rattle.def_reading.proofs.MachineStays.{IsFurther}

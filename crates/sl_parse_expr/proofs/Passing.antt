@@ -11,7 +11,7 @@ use Rattle.def_reading.proofs.LimitSpots.{same_place}
 use Rattle.sl_token.specs.View.{token_in, tokens_in}
 use Rattle.sl_token.specs.declared.token.Token.{Token}
 use Rattle.sl_parse_expr.specs.Following.{IsToldBy, IsAt, IsPassed, IsNoting}
-use Rattle.sl_parse_expr.specs.Seen.{IsAfter, deep_by, place_in, reach_in, told_in}
+use Rattle.sl_parse_expr.specs.Seen.{IsAfter, deep_by, place_in, told_in}
 use Rattle.sl_parse_expr.specs.Tries.{IsIn}
 use Rattle.sl_parse_expr.specs.declared.place.Place.{Place}
 use Rattle.sl_parse_expr.specs.declared.source.Here.{Here}

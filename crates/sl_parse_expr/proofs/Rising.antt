@@ -3,7 +3,6 @@ use Rattle.std.proofs.Common.{ℕ, subst}
 use Rattle.std.specs.Prelude.{Option, Some, None, Result, Ok, Err}
 use Rattle.std.specs.Option.{option_map}
 use Rattle.def_reading.specs.Place as places
-use Rattle.def_reading.specs.Place.{At}
 use Rattle.def_reading.specs.Try.{Reader}
 use Rattle.def_reading.proofs.TryComes.{Noted}
 use Rattle.def_reading.proofs.TryFronts.{Rises, Good}

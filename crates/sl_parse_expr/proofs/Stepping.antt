@@ -9,7 +9,7 @@ use Rattle.def_tree.specs.Limits.{Nesting, plain}
 use Rattle.def_tree.specs.Symbol as symbols
 use Rattle.def_tree.specs.Symbol.{symbol}
 use Rattle.def_reading.specs.Machine as machine
-use Rattle.def_reading.specs.Machine.{Held, Step, Value, Expected, Dotted, written, sign_of, behind_text, behinds, whole, stands, member_by, behind_by, operator_by, step_at}
+use Rattle.def_reading.specs.Machine.{Held, Step, Expected, Dotted, whole, stands, member_by, behind_by, step_at}
 use Rattle.def_reading.specs.Place as lists
 use Rattle.def_reading.specs.Place.{Told, advance}
 use Rattle.def_reading.specs.Plain.{plain_held, plain_step}

@@ -1,6 +1,6 @@
 //! What is open in an expression.
 
-ghost use Rattle.std.specs.Prelude.{◌≡◌, ℕ, List, [], ◌∷◌, ◌++◌, OnOk, IfOk, MatchOption};
+ghost use Rattle.std.specs.Prelude.{◌≡◌, ℕ, List, [], ◌∷◌, OnOk, IfOk, MatchOption};
 
 use crate::closing::level;
 use crate::finish::discard;

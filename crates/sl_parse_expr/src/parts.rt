@@ -1,6 +1,6 @@
 //! Parts of a source: whole expressions and statements.
 
-ghost use Rattle.std.specs.Prelude.{◌≡◌, ◌+◌, ◌<◌, ◌≤◌, ◌^◌, length, IfOk, IfErr};
+ghost use Rattle.std.specs.Prelude.{◌+◌, ◌<◌, ◌≤◌, ◌^◌, length, IfOk, IfErr};
 ghost use Rattle.def_token.specs.Lexical.{HasTokens};
 ghost use Rattle.def_tree.specs.Limits.{all_open, stmt_entries, whole_entries};
 ghost use Rattle.def_tree.specs.Part.{IsExprPart, IsStmtPart};

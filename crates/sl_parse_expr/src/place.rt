@@ -1,6 +1,6 @@
 //! Places in tokens, what is told of them, and how far tokens are read.
 
-ghost use Rattle.std.specs.Prelude.{◌≡◌, ℕ, suc, nat_lt, ◌+◌, ◌-◌, ◌<◌, ◌≤◌, ◌^◌, length, List, drop, IsTrue};
+ghost use Rattle.std.specs.Prelude.{◌≡◌, ℕ, suc, nat_lt, ◌+◌, ◌-◌, ◌<◌, ◌≤◌, ◌^◌, length, List, drop};
 ghost use Rattle.def_reading.specs.Place as lists;
 ghost use Rattle.sl_token.specs.View.{token_in};
 

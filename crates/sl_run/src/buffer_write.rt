@@ -1,6 +1,6 @@
 //! Modules that are one entry point, which writes one number into one buffer.
 
-ghost use Rattle.std.specs.Prelude.{◌≡◌, ℕ, ◌<◌, ◌^◌, ◌≤◌, ◌*◌, ◌↔◌, IsTrue, IfOk, IfSome, IfNone, IsSomeAnd};
+ghost use Rattle.std.specs.Prelude.{◌≡◌, ◌<◌, ◌≤◌, ◌*◌, ◌↔◌, IsTrue, IfOk, IfSome, IfNone, IsSomeAnd};
 ghost use Rattle.std.specs.Fmt.{decimal};
 ghost use Rattle.def_slang.specs.BufferWrite as form;
 ghost use Rattle.def_slang.specs.BufferWrite.{tokens_of, IsAllowed, IsBufferWrite, IsGroup, is_free_name};

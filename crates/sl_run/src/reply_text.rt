@@ -3,7 +3,7 @@
 ghost use Rattle.std.specs.Prelude.{◌≡◌, ◌++◌, IfOk, OnOk, length, map, codes};
 ghost use Rattle.std.specs.Fmt.{decimal};
 ghost use Rattle.std.specs.List.{All, flat_map};
-ghost use Rattle.def_reply.specs.Text.{caller_text, details, diagnostic_line, head_line, line, out_text, outcome, reply_text};
+ghost use Rattle.def_reply.specs.Text.{caller_text, diagnostic_line, line, out_text, reply_text};
 ghost use Rattle.rl_all.specs.Telling.{CanBeTold, HasText};
 ghost use Rattle.sl_run.specs.Views.{answered_in, callers_in};
 

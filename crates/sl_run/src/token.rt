@@ -3,7 +3,7 @@
 ghost use Rattle.std.specs.Prelude.{◌≡◌, ◌<◌, ◌≤◌, [], length, map, not, position, IfOk};
 ghost use Rattle.sl_run.specs.Cutting.{behind_white, token_len, Cuts};
 ghost use Rattle.def_slang.specs.Name.{is_word_byte};
-ghost use Rattle.def_slang.specs.Token.{is_white, Spells};
+ghost use Rattle.def_slang.specs.Token.{is_white};
 
 use sl_base::{NoMemory, is_word_byte};
 use std::alloc::Global;

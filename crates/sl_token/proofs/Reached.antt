@@ -11,7 +11,7 @@ use Rattle.std.proofs.lemmas.Slice.Eq.{bytes_eq-Decides}
 use Rattle.std.proofs.Math.Seq.{take-append_seam, drop-append_seam}
 use Rattle.def_token.specs.Lexeme.{Class, Piece, Front, Cuts, is_in_line, is_line_feed}
 use Rattle.def_token.specs.Lexical as definition
-use Rattle.def_token.specs.Lexical.{End, HasFault, HasTokens, IsFault, IsToken, Skipped, Verdict, bytes_of, is_faultless, mark_before, no_fault, place_behind, token_behind, tokens_among, tokens_by, tokens_of, verdict}
+use Rattle.def_token.specs.Lexical.{End, HasTokens, IsFault, IsToken, Skipped, Verdict, bytes_of, is_faultless, mark_before, no_fault, place_behind, token_behind, tokens_among, tokens_by, tokens_of, verdict}
 use Rattle.def_slang.specs.Token.{byte_order_mark, without_mark}
 use Rattle.sl_token.proofs.Fronts.{first_is, first_some}
 use Rattle.sl_token.proofs.Heads.{IsFirst, front_of}

@@ -1,4 +1,4 @@
-use Rattle.std.proofs.Common.{suc, ◌+◌, Bool, subst, ap, sym, ◌∙◌, arith}
+use Rattle.std.proofs.Common.{suc, subst, ap, sym, ◌∙◌, arith}
 use Rattle.std.specs.Prelude.{nat_lt}
 use Rattle.def_tree.specs.Limits.{Entry}
 use Rattle.sl_parse_expr.specs.Following.{IsPassed}
