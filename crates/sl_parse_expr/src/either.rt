@@ -43,7 +43,6 @@ impl Source<'_> {
         requires { IsAt self.now here.now.place }
         ensures { result ≡ lists.declares (nesting_in around.now) (place_in self.now.bytes.now here.now.place) }
     {
-        let _ = around.types;
         let end = self.ahead[here.place.rest.len()].one;
         end.found && names_a_value(self.bytes, &here.place.rest[end.many..])
     }

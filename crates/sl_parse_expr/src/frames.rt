@@ -96,6 +96,7 @@ impl Frames {
     {
         let (brackets, unary, asked) = frame.counts();
         self.items.push(frame)?;
+        // Sums of what frames open are bounded by their number, which is in range once it was read.
         let _ = self.items.len();
         self.brackets += brackets;
         self.unary += unary;

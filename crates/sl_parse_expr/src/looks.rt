@@ -57,7 +57,6 @@ impl Around<'_> {
             (drop end.many (tokens_in source place.now.rest.now)) }
         ensures limit { result.limit ≡ Some told }
     {
-        let _ = self.source.bytes.len();
         place.skip(end.many).with_limit(Some(told))
     }
 

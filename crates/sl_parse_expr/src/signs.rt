@@ -43,7 +43,6 @@ pub fn begins_with(source: &[u8], tokens: &[Token], sign: &str) -> bool
 pub fn is_name(source: &[u8], token: Token) -> bool
     ensures { result ≡ names (symbol (token_in source.now token)) }
 {
-    let _ = source.len();
     match token.kind {
         Kind::Name => true,
         _ => false,
@@ -54,7 +53,6 @@ pub fn is_name(source: &[u8], token: Token) -> bool
 pub fn is_end(source: &[u8], token: Token) -> bool
     ensures { result ≡ ends (symbol (token_in source.now token)) }
 {
-    let _ = source.len();
     match token.kind {
         Kind::End => true,
         _ => false,
@@ -65,7 +63,6 @@ pub fn is_end(source: &[u8], token: Token) -> bool
 pub fn is_number(source: &[u8], token: Token) -> bool
     ensures { result ≡ numbers (symbol (token_in source.now token)) }
 {
-    let _ = source.len();
     match token.kind {
         Kind::Number => true,
         _ => false,
@@ -76,7 +73,6 @@ pub fn is_number(source: &[u8], token: Token) -> bool
 pub fn is_text(source: &[u8], token: Token) -> bool
     ensures { result ≡ texts (symbol (token_in source.now token)) }
 {
-    let _ = source.len();
     match token.kind {
         Kind::Text => true,
         _ => false,

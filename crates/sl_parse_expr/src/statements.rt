@@ -124,7 +124,6 @@ impl Source<'_> {
     fn begun<'a>(&self, around: &Nesting, here: &Here<'a>) -> Here<'a>
         ensures { IsBegun self.now (opens (in_statement (nesting_in around.now)).statements) here.now result }
     {
-        let _ = self.tokens.len();
         match here.place.rest.split_first() {
             None => *here,
             Some((token, _)) => {
@@ -145,7 +144,6 @@ impl Source<'_> {
         ensures { IsPassed self.now (λ symbol. true) (opens (in_block (nesting_in around.now)).blocks)
             here.now opening result }
     {
-        let _ = self.tokens.len();
         behind.noting(is_too_deep(around.blocks, 0), here.place.at, opening)
     }
 

@@ -46,7 +46,6 @@ impl Source<'_> {
     pub fn refused(&self, here: &Here<'_>) -> Unread
         ensures { Refuses self.now here.now result }
     {
-        let _ = self.tokens.len();
         Unread::Refused(further(here.reach, reach_at(None, 0, &settled(&here.place))))
     }
 
@@ -55,7 +54,6 @@ impl Source<'_> {
         requires { IsAt self.now here.now.place }
         ensures { MayPass self.now (λ symbol. true) here.now result }
     {
-        let _ = self.tokens.len();
         match here.place.rest.split_first() {
             None => None,
             Some((token, _)) => Some((*token, here.advance())),
