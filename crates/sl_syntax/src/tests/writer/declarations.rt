@@ -1,6 +1,6 @@
 //! Declarations and modules as text. A form stands in square brackets, with each of its parts.
 
-use crate::tests::parts::Writer;
+use crate::tests::writer::Writer;
 use sl_tree::{
     AliasTree, AssocTree, AttrTree, BindingTree, BufferKind, BufferTree, ConstTree, DeclTree,
     ExtensionTree, FieldTree, FunctionTree, HeadTree, ImportTree, InterfaceTree, ItemTree,

@@ -53,7 +53,7 @@ fn functions_have_their_parts(rt: HostRuntime) -> Result<(), Fail> {
     let table = [
         (
             "T f<T, U : I>(in T a, inout uint b : B, int c) where T : J { ; return; }",
-            "module [function T f<T, U : I>(in T a, inout uint b : B, int c) where T : J {;;}]",
+            "module [function T f<T, U : I>(in T a, inout uint b : B, int c) where T : J {; return}]",
         ),
         (
             "[shader(\"compute\")] [numthreads(8, 4, 2)] void f(uint3 id : ID) {}",
@@ -140,11 +140,12 @@ fn every_form_stands_in_one_module(rt: HostRuntime) -> Result<(), Fail> {
         extension S : K { override int f() { return 1; } }
         [[vk::binding(0, 1)]] RWStructuredBuffer<S<int>> data;
         [shader(\"compute\")] [numthreads(1, 1, 1)] void main() { if (true) { f(); } }";
-    let wanted = "module m [__exported import a] [public typealias A = int] [static int K = ..] \
-        [struct S<T> : I where T : I {[field T a, b] [method mutating void set(T c) {;}] [typealias B = T]};] \
+    let wanted =
+        "module m [__exported import a] [public typealias A = int] [static int K = [1 + 1]] \
+        [struct S<T> : I where T : I {[field T a, b] [method mutating void set(T c) {[a = c]}] [typealias B = T]};] \
         [interface I : J {[associatedtype B] [require static int f()]}] \
-        [extension S : K {[method override int f() {;}]}] [[0, 1] write S<int> data] \
-        [function [shader \"compute\"] [numthreads 1, 1, 1] void main() {;}]";
+        [extension S : K {[method override int f() {[return 1]}]}] [[0, 1] write S<int> data] \
+        [function [shader \"compute\"] [numthreads 1, 1, 1] void main() {[if true {[call [f()]]}]}]";
     let read = module_text(&rt, source)?;
     assert_eq!(rt; read.as_str(), wanted);
     Ok(())

@@ -1,160 +1,20 @@
-//! Trees as text. A form of several parts stands in square brackets; a group keeps its round ones.
+//! Statements as text.
 
-use sl_token::{Token, text_at};
+use crate::tests::writer::Writer;
+use sl_token::Token;
 use sl_tree::{
-    Assignment, Binding, Declarator, ExprTree, InitTree, LocalTree, Operator, SimpleTree,
-    StartTree, Step, StmtTree, TypeTree, TypeWord, UnaryOperator,
+    Assignment, Binding, BlockTree, Declarator, ExprTree, InitTree, LocalTree, SimpleTree,
+    StartTree, Step, StmtTree,
 };
 use sqlite_items::{Boxed, Items};
 use std::alloc::AllocError;
-use std::fmt::Write;
-
-/// A text to which trees of a source are written.
-#[derive(Drop)]
-pub struct Writer<'a> {
-    pub source: &'a [u8],
-    pub text: String,
-    /// Whether the column of each token is written behind it.
-    pub columns: bool,
-}
 
 impl Writer<'_> {
-    /// Text as it is.
-    pub fn put(&mut self, text: &str) -> Result<(), AllocError> {
-        self.text.push_str(text)
-    }
-
-    /// A token's text.
-    pub fn token(&mut self, token: Token) -> Result<(), AllocError> {
-        let word = text_at(self.source, token.span);
-        self.sign(str::from_utf8(word).unwrap_or("?"), token)
-    }
-
-    /// A sign that begins with a token.
-    pub fn sign(&mut self, sign: &str, token: Token) -> Result<(), AllocError> {
-        self.put(sign)?;
-        if !self.columns {
-            return Ok(());
-        }
-        let column = token.place.column;
-        write!(&mut self.text, "@{column};")
-    }
-
-    /// A type.
-    #[cycle(type_text)]
-    pub fn ty(&mut self, tree: &TypeTree) -> Result<(), AllocError> {
-        match tree {
-            TypeTree::Word { word, first, path } => {
-                self.sign(word_text(*word), *first)?;
-                self.path(path.as_slice())
-            }
-            TypeTree::Named { first, args, path } => {
-                self.token(*first)?;
-                self.type_args(args)?;
-                self.path(path.as_slice())
-            }
-        }
-    }
-
-    #[cycle(type_text)]
-    fn type_args(&mut self, args: &Items<TypeTree>) -> Result<(), AllocError> {
-        for (number, arg) in args.as_slice().iter().enumerate() {
-            self.put(if number == 0 { "<" } else { "," })?;
-            self.ty(arg)?;
-        }
-        self.put(if args.is_empty() { "" } else { ">" })
-    }
-
-    fn path(&mut self, path: &[Token]) -> Result<(), AllocError> {
-        for name in path {
-            self.put(".")?;
-            self.token(*name)?;
-        }
-        Ok(())
-    }
-
-    /// An expression.
-    #[cycle(expr_text)]
-    pub fn expr(&mut self, tree: &ExprTree) -> Result<(), AllocError> {
-        match tree {
-            ExprTree::Number(token) | ExprTree::Itself(token) | ExprTree::OwnType(token) => {
-                self.token(*token)
-            }
-            ExprTree::Truth(true, token) => self.sign("true", *token),
-            ExprTree::Truth(false, token) => self.sign("false", *token),
-            ExprTree::Name(token, args) => {
-                self.token(*token)?;
-                self.type_args(args)
-            }
-            ExprTree::Conversion(word, token, operand) => {
-                self.sign(word_text(*word), *token)?;
-                self.between("(", operand, ")")
-            }
-            ExprTree::Group(opening, inner) => {
-                self.sign("(", *opening)?;
-                self.between("", inner, ")")
-            }
-            ExprTree::Call(callee, opening, args) => {
-                self.between("[", callee, "")?;
-                self.sign("(", *opening)?;
-                self.exprs(args)?;
-                self.put(")]")
-            }
-            ExprTree::Index(base, opening, index) => {
-                self.between("[", base, "")?;
-                self.sign("{", *opening)?;
-                self.between("", index, "}]")
-            }
-            ExprTree::Member(base, name) => {
-                self.between("[", base, ".")?;
-                self.token(*name)?;
-                self.put("]")
-            }
-            ExprTree::Unary(operator, token, operand) => {
-                self.put("[")?;
-                self.sign(unary_text(*operator), *token)?;
-                self.between(" ", operand, "]")
-            }
-            ExprTree::Cast(opening, word, token, operand) => {
-                self.put("[")?;
-                self.sign("(", *opening)?;
-                self.sign(word_text(*word), *token)?;
-                self.between(") ", operand, "]")
-            }
-            ExprTree::Binary(operator, token, left, right) => {
-                self.between("[", left, " ")?;
-                self.sign(operator_text(*operator), *token)?;
-                self.between(" ", right, "]")
-            }
-            ExprTree::Conditional(condition, question, first, second) => {
-                self.between("[", condition, " ")?;
-                self.sign("?", *question)?;
-                self.between(" ", first, " : ")?;
-                self.between("", second, "]")
-            }
-        }
-    }
-
-    #[cycle(expr_text)]
-    fn between(
-        &mut self,
-        before: &str,
-        tree: &Boxed<ExprTree>,
-        behind: &str,
-    ) -> Result<(), AllocError> {
-        self.put(before)?;
-        self.expr(tree.get())?;
-        self.put(behind)
-    }
-
-    /// Expressions with commas between them.
-    #[cycle(expr_text)]
-    pub fn exprs(&mut self, trees: &Items<ExprTree>) -> Result<(), AllocError> {
-        for (number, tree) in trees.as_slice().iter().enumerate() {
-            self.put(if number == 0 { "" } else { ", " })?;
-            self.expr(tree)?;
-        }
-        Ok(())
+    /// A block.
+    pub fn block(&mut self, block: &BlockTree) -> Result<(), AllocError> {
+        self.sign("{", block.opening)?;
+        self.stmts(&block.stmts)?;
+        self.put("}")
     }
 
     // An initialiser.
@@ -334,49 +194,6 @@ impl Writer<'_> {
             self.stmt(tree)?;
         }
         Ok(())
-    }
-}
-
-fn word_text(word: TypeWord) -> &'static str {
-    match word {
-        TypeWord::Int => "int",
-        TypeWord::Uint => "uint",
-        TypeWord::Bool => "bool",
-        TypeWord::Void => "void",
-        TypeWord::Uint3 => "uint3",
-        TypeWord::This => "This",
-    }
-}
-
-fn unary_text(operator: UnaryOperator) -> &'static str {
-    match operator {
-        UnaryOperator::Minus => "-",
-        UnaryOperator::Plus => "+",
-        UnaryOperator::Not => "!",
-        UnaryOperator::Complement => "~",
-    }
-}
-
-fn operator_text(operator: Operator) -> &'static str {
-    match operator {
-        Operator::Or => "||",
-        Operator::And => "&&",
-        Operator::BitOr => "|",
-        Operator::BitXor => "^",
-        Operator::BitAnd => "&",
-        Operator::Equal => "==",
-        Operator::NotEqual => "!=",
-        Operator::Less => "<",
-        Operator::LessEqual => "<=",
-        Operator::Greater => ">",
-        Operator::GreaterEqual => ">=",
-        Operator::ShiftLeft => "<<",
-        Operator::ShiftRight => ">>",
-        Operator::Add => "+",
-        Operator::Subtract => "-",
-        Operator::Multiply => "*",
-        Operator::Divide => "/",
-        Operator::Remainder => "%",
     }
 }
 
