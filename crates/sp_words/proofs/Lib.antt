@@ -1,1 +1,5 @@
+pub mod Decoded
+pub mod Entries
+pub mod Instructions
+pub mod Spelling
 pub mod TextWords

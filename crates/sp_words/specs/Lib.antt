@@ -1,6 +1,10 @@
 pub use Rattle.def_spirv.specs.Words
 pub use Rattle.def_spirv.specs.Opcodes
+pub use Rattle.def_spirv.specs.Table
+pub use Rattle.def_spirv.specs.Operands
 pub use Rattle.def_spirv.specs.Enumerants
+pub mod Decoding
 pub mod Numbers
+pub mod Reading
 pub mod Text
 pub mod View

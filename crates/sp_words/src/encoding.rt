@@ -8,11 +8,11 @@ use crate::instruction::{Inst, Words};
 use sl_base::{Bytes, NoMemory};
 use std::alloc::Global;
 
-const MAGIC: u32 = 0x0723_0203;
+pub(crate) const MAGIC: u32 = 0x0723_0203;
 
-const VERSION: u32 = 0x0001_0500;
+pub(crate) const VERSION: u32 = 0x0001_0500;
 
-const SCHEMA: u32 = 0;
+pub(crate) const SCHEMA: u32 = 0;
 
 /// The one spelling of a module, in little-endian order (SPIR-V 1.5, 2.3).
 pub fn encode(alloc: Global, words: &Words) -> Result<Bytes, NoMemory>

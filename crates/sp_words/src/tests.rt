@@ -74,3 +74,55 @@ fn text_ends_with_a_zero_byte_and_zero_padding(rt: HostRuntime) -> Result<(), Fa
     }
     Ok(())
 }
+
+/// A header and `OpCapability Shader`.
+const MODULE: [u8; 28] = [
+    0x03, 0x02, 0x23, 0x07, 0x00, 0x05, 0x01, 0x00, 0x00, 0x00, 0x00, 0x00, 0x01, 0x00, 0x00, 0x00,
+    0x00, 0x00, 0x00, 0x00, 0x11, 0x00, 0x02, 0x00, 0x01, 0x00, 0x00, 0x00,
+];
+
+#[test]
+fn module_of_one_instruction_is_decoded(rt: HostRuntime) -> Result<(), Fail> {
+    let words = decode(rt.alloc(), &MODULE)?;
+    assert_eq!(rt;
+        (words.generator, words.bound, words.insts.len()),
+        (0, 1, 1)
+    );
+    for inst in words.insts.as_slice() {
+        assert_eq!(rt; inst.op, opcode::CAPABILITY);
+        assert_eq!(rt;
+            inst.operands.as_slice(),
+            [enumerant::CAPABILITY_SHADER].as_slice()
+        );
+    }
+    Ok(())
+}
+
+#[test]
+fn first_fault_of_bytes_is_told(rt: HostRuntime) -> Result<(), Fail> {
+    let faults: [(usize, usize, u8, WordRefusal); 12] = [
+        (27, 0, 0x03, WordRefusal::NotWords),
+        (16, 0, 0x03, WordRefusal::NotWords),
+        (28, 3, 0x06, WordRefusal::BadMagic),
+        (28, 5, 0x04, WordRefusal::BadVersion),
+        (28, 16, 0x01, WordRefusal::BadSchema),
+        (24, 0, 0x03, WordRefusal::BadCount { at: 5 }),
+        (28, 22, 0x00, WordRefusal::BadCount { at: 5 }),
+        (28, 22, 0x03, WordRefusal::BadCount { at: 5 }),
+        (28, 23, 0xff, WordRefusal::BadCount { at: 5 }),
+        (28, 20, 0x00, WordRefusal::Unknown { at: 5, op: 0 }),
+        (28, 20, 0x71, WordRefusal::Unknown { at: 5, op: 113 }),
+        (28, 22, 0x01, WordRefusal::BadCount { at: 6 }),
+    ];
+    for (length, place, byte, refusal) in faults {
+        let mut bytes = MODULE;
+        if let Some(changed) = bytes.get_mut(place) {
+            *changed = byte;
+        }
+        match decode(rt.alloc(), &bytes[..length.min(MODULE.len())]) {
+            Ok(_) => panic!(rt; "decoded with {byte} at {place}"),
+            Err(told) => assert_eq!(rt; told, refusal, "with {byte} at {place}"),
+        }
+    }
+    Ok(())
+}
