@@ -1,0 +1,13 @@
+//! How elements lie in a storage buffer by the rules std430, and to which slots buffers are bound.
+//!
+//! This crate holds definitions (`specs/`), laws about them, and the types that they share with programs.
+#![tactic(auto)]
+
+mod laid;
+pub mod laws;
+mod scalar;
+mod slot;
+
+pub use laid::{Laid, Leaf};
+pub use scalar::Scalar;
+pub use slot::{Slot, Wanted};
