@@ -1,5 +1,4 @@
-//! Laws: that elements have one layout, in which their numbers stand apart, aligned and inside, and that buffers have
-//! one binding.
+//! Laws: that elements have one layout, in which their numbers stand apart, aligned and inside.
 
 ghost use Rattle.def_layout.specs.Laws.{LayoutsAreDetermined, ShapesAreLaidOut, LeavesAreApart, LeavesLieInside, LeavesAreAligned, StridesHoldAll};
 

@@ -1,4 +1,4 @@
-//! How elements lie in a storage buffer by the rules std430, and to which slots buffers are bound.
+//! How elements lie in a storage buffer by the rules std430.
 //!
 //! This crate holds definitions (`specs/`), laws about them, and the types that they share with programs.
 #![tactic(auto)]
@@ -6,8 +6,6 @@
 mod laid;
 pub mod laws;
 mod scalar;
-mod slot;
 
 pub use laid::{Laid, Leaf};
 pub use scalar::Scalar;
-pub use slot::{Slot, Wanted};

@@ -18,3 +18,6 @@ shape_in-Uint = ap shape_in (sym shape.rolls-Uint) ∙ fold-roll-Shape shapes.Sh
 pub shape_in-Fields : (fields : List Shape) → shape_in (shape.Fields fields) ≡ shapes.Struct (shapes_in fields)
 unfolding shape_in
 shape_in-Fields fields = ap shape_in (sym (shape.rolls-Fields fields)) ∙ fold-roll-Shape shapes.Shape shape_by (Shape-F.Fields fields)
+
+-- what shapes stand for
+pub ruleset shape_forms = (shape_in-Int, shape_in-Uint, shape_in-Fields)
