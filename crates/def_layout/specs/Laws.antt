@@ -31,7 +31,8 @@ LeavesLieInside = (shape : Shape) (laid : Laid) → IsLaidOut shape laid
 -- in each element each number begins at a multiple of its size
 abbrev pub LeavesAreAligned : Type 0
 LeavesAreAligned = (shape : Shape) (laid : Laid) → IsLaidOut shape laid
-    → (index : ℕ) → All (λ leaf. IsMultiple (bytes leaf.scalar) (index * laid.stride + leaf.offset)) laid.leaves
+    → (index : ℕ)
+    → All (λ leaf. IsMultiple (bytes leaf.scalar) (index * laid.stride + leaf.offset)) laid.leaves
 
 -- a number of bytes holds all numbers
 abbrev pub HoldsAll : Laid → ℕ → Type 0
