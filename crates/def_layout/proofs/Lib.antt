@@ -1,0 +1,7 @@
+pub mod Aligned
+pub mod Apart
+pub mod Determined
+pub mod Existing
+pub mod Inside
+pub mod Least
+pub mod Multiples

@@ -1,0 +1,3 @@
+pub mod Shape
+pub mod Std430
+pub mod Laws

@@ -1,0 +1,2 @@
+pub mod Beating
+pub mod Determined
