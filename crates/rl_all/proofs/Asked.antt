@@ -9,7 +9,12 @@ use Rattle.def_check.specs.Reply.{TellsAnswers}
 use Rattle.def_check.specs.Roots.{behind_syntax}
 use Rattle.sl_key.specs.declared.answer.Answer.{Answer}
 use Rattle.sl_key.specs.declared.key.Key.{Key}
-use Rattle.sl_key.specs.declared.key.Key.TheVariants.{Syntax}
+use Rattle.sl_key.specs.Order.{module_key}
+use Rattle.sl_key.specs.declared.key.Kind.TheVariants.{Syntax as syntax_kind}
+
+-- the key of a module's syntax
+abbrev pub Syntax : List ℕ → Key
+Syntax name = module_key syntax_kind name
 use Rattle.rl_all.specs.Asking.{Asks, Gains, keys_for}
 
 -- ---- one part after another

@@ -7,15 +7,15 @@ use Rattle.sl_io.specs.Root.{bytes_of}
 use Rattle.sl_key.specs.Order.{module_of}
 use Rattle.sl_key.specs.declared.answer.Answer.{Answer}
 use Rattle.sl_key.specs.declared.key.Key.{Key}
-use Rattle.sl_key.specs.declared.key.Key.TheVariants.{Syntax}
 use Rattle.sl_key.specs.declared.request.Request.TheVariants.{Make}
 use Rattle.sl_key.specs.declared.request.Term.TheVariants.{Load}
 use Rattle.def_sources.specs.Sources.{Sources}
-use Rattle.def_check.specs.Parts.{diagnostic}
+use Rattle.def_check.specs.Syntax.{diagnostic}
 use Rattle.def_check.specs.Reply.{cycle_told, key_place, key_text, told_by, told_for, told_of}
 use Rattle.def_check.specs.Roots.{asked_of, pointed_to, roots_of}
 use Rattle.rl_all.specs.Asking.{keys_for}
 use Rattle.rl_all.specs.Telling.{place_in}
+use Rattle.rl_all.proofs.Asked.{Syntax}
 
 module _ (sources : Sources) (f : Key → Answer) where
   -- the diagnostic of a cycle, from the parts of which it is made

@@ -12,7 +12,7 @@ use crate::imports::imports;
 use qe_rules::{Cycle, Rules, Step, Steps};
 use rl_sig::{alias, constant};
 use sl_base::{Name, NoMemory};
-use sl_key::{Answer, Facts, Key};
+use sl_key::{Answer, Facts, Key, Kind};
 use sl_roots::SourceSet;
 use std::alloc::Global;
 use std::marker::Model;
@@ -62,11 +62,11 @@ impl SlangRules {
     fn body(&self, alloc: Global, key: &Key, known: &Facts) -> Result<Step<Key, Answer>, NoMemory>
         ensures { IfOk result (λ step. step ≡ body_of self.now key.now known.now.pairs) }
     {
-        match key {
-            Key::Syntax(name) => Ok(Step::Done(self.syntax(alloc, name)?)),
-            Key::Imports(name) => imports(alloc, known, name),
-            Key::Alias(path) => alias(alloc, known, path),
-            Key::Const(path) => constant(alloc, known, path),
+        match key.kind {
+            Kind::Syntax => Ok(Step::Done(self.syntax(alloc, &key.path.module)?)),
+            Kind::Imports => imports(alloc, known, &key.path.module),
+            Kind::Alias => alias(alloc, known, &key.path),
+            Kind::Const => constant(alloc, known, &key.path),
         }
     }
 }
