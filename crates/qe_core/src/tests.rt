@@ -1,11 +1,13 @@
 //! Histories of callers, event by event.
 
 ghost use Rattle.std.specs.Prelude.{◌≡◌, [], IfOk};
+ghost use Rattle.std.specs.Ordering.{nat_cmp};
 ghost use Rattle.def_query.specs.Edges.{edge_meaning};
 ghost use Rattle.def_query.proofs.Edges.{edges_lawful};
+ghost use Rattle.qe_rules.specs.Frame.{IsRight};
 
 use crate::{Core, Event, Outcome};
-use qe_rules::{Cycle, Known, Rules, Step, Steps};
+use qe_rules::{Anew, Cycle, Known, Rules, Step, Steps, resume_anew};
 use sl_base::{List, NoMemory};
 use std::alloc::Global;
 use std::process::Abort;
@@ -24,7 +26,13 @@ impl Rules for Plain {
 
     type Answer = Told;
 
+    type Frame = Anew<u8, Told>;
+
     ghost meaning = { λ r. edge_meaning [] 0 };
+
+    ghost stands_for = { λ f. f };
+
+    ghost is_of = { λ r f. IsRight nat_cmp (edge_meaning [] 0) f };
 
     fn step<L: Ledger>(
         &self,
@@ -35,6 +43,20 @@ impl Rules for Plain {
     ) -> Result<Step<u8, Told>, NoMemory> {
         steps.tick();
         Ok(Step::Done(Ok(if *key == 0 { Some(0) } else { None })))
+    }
+
+    fn begin(&self, alloc: Global, key: &u8) -> Result<Anew<u8, Told>, NoMemory> {
+        Ok(Anew::new(alloc, *key))
+    }
+
+    fn resume<L: Ledger>(
+        &self,
+        alloc: Global,
+        frame: &mut Anew<u8, Told>,
+        known: &Known<u8, Told>,
+        steps: &mut Steps<L>,
+    ) -> Result<Step<u8, Told>, NoMemory> {
+        resume_anew(alloc, self, frame, known, steps)
     }
 
     fn circular(&self, alloc: Global, cycle: &Cycle<u8>) -> Result<Told, NoMemory> {
@@ -53,6 +75,8 @@ impl Rules for Plain {
     }
 
     ghost lawful = { λ r. edges_lawful [] 0 };
+
+    ghost right = { λ r f of. of };
 }
 
 // The answer that tells a cycle.

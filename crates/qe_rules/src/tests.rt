@@ -1,14 +1,17 @@
 //! Rules over edges between numbers, and what is answered by them.
 
 ghost use Rattle.std.specs.Prelude.{◌≡◌, IfOk};
+ghost use Rattle.std.specs.Ordering.{nat_cmp};
 ghost use Rattle.def_query.specs.Edges.{edge_meaning};
 ghost use Rattle.def_query.proofs.Edges.{edges_lawful};
+ghost use Rattle.qe_rules.specs.Frame.{IsRight};
 
-use crate::{AloneAsker, Asker, Cycle, Known, Rules, Step, Steps, alone};
+use crate::{Anew, AloneAsker, Asker, Cycle, Known, Rules, Step, Steps, alone, resume_anew};
 use sl_base::{List, NoMemory};
 use std::alloc::Global;
 use std::marker::Brand;
 use std::process::Abort;
+use std::sync::atomic::{AtomicU64, Ordering};
 use std::sync::ledger::{Blank, Ledger};
 use std::test::Fail;
 
@@ -20,6 +23,8 @@ type Told = Result<Option<u8>, List<u8>>;
 struct Edges {
     edges: Vec<(u8, u8)>,
     bad: u8,
+    begun: AtomicU64,
+    resumed: AtomicU64,
 }
 
 impl Rules for Edges {
@@ -27,7 +32,13 @@ impl Rules for Edges {
 
     type Answer = Told;
 
+    type Frame = Anew<u8, Told>;
+
     ghost meaning = { λ r. edge_meaning r.edges.items r.bad };
+
+    ghost stands_for = { λ f. f };
+
+    ghost is_of = { λ r f. IsRight nat_cmp (edge_meaning r.edges.items r.bad) f };
 
     fn step<L: Ledger>(
         &self,
@@ -57,6 +68,22 @@ impl Rules for Edges {
         Ok(Step::Done(Ok(if self.bad == *key { Some(*key) } else { None })))
     }
 
+    fn begin(&self, alloc: Global, key: &u8) -> Result<Anew<u8, Told>, NoMemory> {
+        self.begun.fetch_add(1, Ordering::SeqCst);
+        Ok(Anew::new(alloc, *key))
+    }
+
+    fn resume<L: Ledger>(
+        &self,
+        alloc: Global,
+        frame: &mut Anew<u8, Told>,
+        known: &Known<u8, Told>,
+        steps: &mut Steps<L>,
+    ) -> Result<Step<u8, Told>, NoMemory> {
+        self.resumed.fetch_add(1, Ordering::SeqCst);
+        resume_anew(alloc, self, frame, known, steps)
+    }
+
     fn circular(&self, alloc: Global, cycle: &Cycle<u8>) -> Result<Told, NoMemory> {
         told(alloc, cycle.as_slice())
     }
@@ -73,6 +100,8 @@ impl Rules for Edges {
     }
 
     ghost lawful = { λ r. edges_lawful r.edges.items r.bad };
+
+    ghost right = { λ r f of. of };
 }
 
 // The answer that tells a cycle.
@@ -100,7 +129,12 @@ fn sample(alloc: Global) -> Result<Edges, NoMemory> {
         (14, 13),
         (14, 10),
     ]?;
-    Ok(Edges { edges, bad: 12 })
+    Ok(Edges {
+        edges,
+        bad: 12,
+        begun: AtomicU64::new(0),
+        resumed: AtomicU64::new(0),
+    })
 }
 
 #[test]
@@ -127,6 +161,11 @@ fn a_fault_is_handed_on_by_what_uses_it_first(rt: HostRuntime) -> Result<(), Fai
 }
 
 #[test]
+fn each_body_is_begun_once_and_goes_on_behind_each_need(rt: HostRuntime) -> Result<(), Fail> {
+    expect_calls::<Brand>(&rt, rt.alloc(), Blank::new(1))
+}
+
+#[test]
 fn what_is_known_is_not_worked_out_again(rt: HostRuntime) -> Result<(), Fail> {
     expect_more::<Brand>(&rt, rt.alloc(), Blank::new(1))
 }
@@ -144,6 +183,21 @@ fn expect_more<L: Ledger>(rt: &impl Abort, alloc: Global, blank: Blank) -> Resul
     assert_eq!(rt; known.len(), 2);
     let _zero = alone(alloc, &rules, &mut known, &0, &mut steps)?;
     assert_eq!(rt; known.len(), 4);
+    Ok(())
+}
+
+// Answers the first key of the chain of four, and counts what it took.
+fn expect_calls<L: Ledger>(rt: &impl Abort, alloc: Global, blank: Blank) -> Result<(), Fail>
+    requires name { blank.name ≡ L.name }
+    requires parts { blank.parts ≡ L.parts }
+    requires one { blank.parts ≡ 1 }
+{
+    let rules = sample(alloc)?;
+    let mut known = Known::new(alloc);
+    let mut steps = Steps::<L>::new(blank);
+    let _zero = alone(alloc, &rules, &mut known, &0, &mut steps)?;
+    assert_eq!(rt; rules.begun.load(Ordering::SeqCst), 4);
+    assert_eq!(rt; rules.resumed.load(Ordering::SeqCst), 7);
     Ok(())
 }
 
