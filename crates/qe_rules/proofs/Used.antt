@@ -1,5 +1,5 @@
 -- Frames that keep the answers that they have used.
-use Rattle.std.proofs.Common.{◌≡◌, ◌≢◌, ℕ, suc, List, [], ◌∷◌, ◌++◌, length, Option, Some, None, map, refl, sym, ◌∙◌, ap, subst, inl, inr, arith, ◌+◌, ◌≤◌}
+use Rattle.std.proofs.Common.{◌≡◌, ◌≢◌, ℕ, suc, List, [], ◌∷◌, ◌++◌, length, Option, Some, None, map, refl, sym, ◌∙◌, ap, subst, inl, inr, arith, ◌+◌, ◌-◌, ◌<◌}
 use Rattle.std.specs.Cmp.{IsTotalOrder}
 use Rattle.std.specs.List.{AllByRecursion, flat_map}
 use Rattle.std.specs.declared.cmp.Ordering.{Ordering}
@@ -8,11 +8,13 @@ use Rattle.def_query.specs.Keys.{IsIn, AreDistinct}
 use Rattle.def_query.specs.Lawful.{IsLawful}
 use Rattle.def_query.specs.Map.{get, IsWithin}
 use Rattle.def_query.specs.Meaning.{Meaning}
+use Rattle.def_query.specs.declared.step.Step.{Step}
 use Rattle.def_query.specs.declared.step.Step.TheVariants.{Needs, Done}
 use Rattle.def_query.proofs.Maps.{Same, Apart, compared, get_cases, get_here, get_there, has_or_lacks, one_value, not_both, within_cons, key_is_in}
 use Rattle.def_query.proofs.Correct.{correct_cons}
 use Rattle.def_query.proofs.Runs.{lacks_cons}
 use Rattle.def_query.proofs.Walks.{Without, take_out, in_append_cases, in_append_left, in_append_right, distinct_push}
+use Rattle.qe_rules.specs.Frame.{Frame, IsRight, IsWorked}
 use Rattle.qe_rules.specs.Known.{IsSameMap}
 use Rattle.qe_rules.specs.Anew.{pair_of, pairs_in, AreKeysOf}
 use Rattle.qe_rules.proofs.Stacks.{get_first, get_second, from_within, same_body, all_snoc}
@@ -95,7 +97,7 @@ module _ {K A : Type 0} (cmp : K → K → Ordering) (total : IsTotalOrder cmp) 
       ];
     },
     pairs_snoc n keys y a new
-    ∙ ap (λ l. l ++ (y, a) ∷ []) (same_pairs m n keys (λ k i. same k ∙ get_there cmp total lawful.one_key y k a m (λ e. fresh (subst (λ z. IsIn z keys) e i)))),
+        ∙ ap (λ l. l ++ (y, a) ∷ []) (same_pairs m n keys (λ k i. same k ∙ get_there cmp total lawful.one_key y k a m (λ e. fresh (subst (λ z. IsIn z keys) e i)))),
   )
     where
       fresh : ¬ IsIn y keys
@@ -186,12 +188,15 @@ module _ {K A : Type 0} (cmp : K → K → Ordering) (total : IsTotalOrder cmp) 
           count = (let s = w.shorter in let c = g.count in omega (arith, s, c, one));
         }
 
-    pub fewer : (y : K) (a : A) → r.body key used ≡ Needs y → get cmp known y ≡ Some a → length used + 1 ≤ length known + length used0
-    fewer y a needs has =
+    pub smaller :
+        (y : K) (a : A) (next : List (K × A)) → r.body key used ≡ Needs y → get cmp known y ≡ Some a
+        → length next ≡ length used + 1
+        → length known + length used0 - length next < length known + length used0 - length used
+    smaller y a next needs has one =
         let w : Without y g.rest = take_out y g.rest (g.left y a has (lawful.needs_lacking key used y needs)) in
         let s = w.shorter in
         let c = g.count in
-        omega (arith, s, c)
+        omega (arith, s, c, one)
 
     -- the answers that it has used now are used already, or known
     within : IsWithin cmp used (pairs_in cmp used0 order0 ++ known)
@@ -224,5 +229,27 @@ module _ {K A : Type 0} (cmp : K → K → Ordering) (total : IsTotalOrder cmp) 
           | inr l ↦ get_second cmp total r lawful (pairs_in cmp used0 order0) known y l ∙ lacks
         ]))
 
-    pub same_needs : (y : K) → r.body key used ≡ Needs y → r.body key (pairs_in cmp used order) ≡ Needs y
+    same_needs : (y : K) → r.body key used ≡ Needs y → r.body key (pairs_in cmp used order) ≡ Needs y
     same_needs y e = sym (same_body cmp total r lawful key used (pairs_in cmp used order) (map_within used order g.keys) (in_map used order)) ∙ e
+
+    -- what it has used now comes after what it had used
+    pub worked : (s : Step K A) → s ≡ r.body key (pairs_in cmp used0 order0 ++ known) → r.body key used ≡ s
+        → IsWorked cmp r key known (pairs_in cmp used0 order0) s (pairs_in cmp used order)
+    worked s gives e = record {
+      gives = gives;
+      further = g.more;
+      uses = g.read;
+      from_map = g.from_known;
+      needs = λ y f. same_needs y (e ∙ f);
+    }
+
+  pub used_correct : (m : List (K × A)) (keys : List K) → AreKeysOf cmp m keys → IsCorrect cmp r (pairs_in cmp m keys) → IsCorrect cmp r m
+  used_correct m keys all c k a h = c k a (map_within m keys all k a h)
+
+  pub right_of :
+      (f : Frame K A) (m : List (K × A)) (keys : List K) → f.read ≡ pairs_in cmp m keys → AreKeysOf cmp m keys
+      → IsCorrect cmp r m → IsRight cmp r f
+  right_of f m keys is all c = record {
+    correct = subst (IsCorrect cmp r) (sym is) (λ k a h. c k a (in_map m keys k a h));
+    distinct = subst (λ (l : List (K × A)). AreDistinct (map (λ (p : K × A). p.0) l)) (sym is) (distinct_pairs m keys all.distinct);
+  }

@@ -22,6 +22,13 @@ abbrev pub stage_after : {K A : Type 0} → Step K A → Stage
 stage_after (Needs y) = Waiting
 stage_after (Done a) = Ended
 
+-- the frames of some rules and behind them that of this key, which is begun
+pub record HasBegun {F K A : Type 0} (is_of : F → Type 0) (stands_for : F → Frame K A) (was : List F) (key : K) (now : List F) : Type 0 where
+  pub frame : F
+  pub behind : now ≡ was ++ frame ∷ []
+  pub of : is_of frame
+  pub begun : stands_for frame ≡ record { key = key; read = []; stage = Begun }
+
 module _ {K A : Type 0} (cmp : K → K → Ordering) (r : Meaning K A) where
   -- the answers that it has used are right, one for a key
   pub record IsRight (f : Frame K A) : Type 0 where

@@ -78,7 +78,15 @@ pub fn resume_anew<R: Rules, L: Ledger>(
     ensures err { OnErr result (steps.new ≡ steps.old) }
 {
     let used = &mut frame.used;
-    let step = work_anew(alloc, rules, &frame.key, used, &mut frame.order, known, steps)?;
+    let step = work_anew(
+        alloc,
+        rules,
+        &frame.key,
+        used,
+        &mut frame.order,
+        known,
+        steps,
+    )?;
     frame.stage = match &step {
         Step::Needs(_) => Stage::Waiting,
         Step::Done(_) => Stage::Ended,

@@ -4,8 +4,8 @@ ghost use Rattle.std.specs.Prelude.{◌≡◌, ◌<◌, ◌++◌, ℕ, [], ◌�
 ghost use Rattle.std.specs.Ordering.{is_eq, is_gt};
 ghost use Rattle.def_query.specs.Keys.{IsIn};
 ghost use Rattle.def_query.specs.Map.{get};
+ghost use Rattle.qe_rules.specs.Frame.{HasBegun};
 ghost use Rattle.qe_rules.specs.Worker.{IsTurned, IsTaken};
-ghost use Rattle.qe_rules.specs.declared.frame.Stage.TheVariants.{Begun};
 
 use crate::cycle::Cycle;
 use crate::known::Known;
@@ -35,8 +35,8 @@ impl<R: Rules> Chain<R> {
     // Begins a key behind the others.
     pub(crate) fn begin(&mut self, alloc: Global, rules: &R, key: R::Key) -> Result<(), NoMemory>
         ensures keys { OnOk result (self.new.keys.items ≡ self.old.keys.items ++ key ∷ []) }
-        ensures frames { OnOk result ((f : R.Frame) × (self.new.frames.items ≡ self.old.frames.items ++ f ∷ [])
-            × R.is_of rules.now f × (R.stands_for f ≡ record { key = key; read = []; stage = Begun })) }
+        ensures frames { OnOk result (HasBegun (R.is_of rules.now) R.stands_for
+            self.old.frames.items key self.new.frames.items) }
     {
         self.frames.push(rules.begin(alloc, &key)?)?;
         Ok(self.keys.push(key)?)
@@ -51,8 +51,8 @@ impl<R: Rules> Chain<R> {
         need: R::Key,
     ) -> Result<(), NoMemory>
         ensures keys { OnOk result (self.new.keys.items ≡ self.old.keys.items ++ need ∷ []) }
-        ensures frames { OnOk result ((f : R.Frame) × (self.new.frames.items ≡ (self.old.frames.items ++ frame ∷ []) ++ f ∷ [])
-            × R.is_of rules.now f × (R.stands_for f ≡ record { key = need; read = []; stage = Begun })) }
+        ensures frames { OnOk result (HasBegun (R.is_of rules.now) R.stands_for
+            (self.old.frames.items ++ frame ∷ []) need self.new.frames.items) }
     {
         self.frames.push(frame)?;
         self.begin(alloc, rules, need)

@@ -6,7 +6,7 @@ ghost use Rattle.def_query.specs.Edges.{edge_meaning};
 ghost use Rattle.def_query.proofs.Edges.{edges_lawful};
 ghost use Rattle.qe_rules.specs.Frame.{IsRight};
 
-use crate::{Anew, AloneAsker, Asker, Cycle, Known, Rules, Step, Steps, alone, resume_anew};
+use crate::{AloneAsker, Anew, Asker, Cycle, Known, Rules, Step, Steps, alone, resume_anew};
 use sl_base::{List, NoMemory};
 use std::alloc::Global;
 use std::marker::Brand;

@@ -1,7 +1,7 @@
 use Rattle.std.proofs.Common.{◌≡◌, ◌∙◌, List, [], ◌∷◌, ◌++◌, length, map, drop, sym, subst, ap}
 use Rattle.std.specs.List.{AllByRecursion}
 use Rattle.def_query.specs.Answer.{IsCorrect}
-use Rattle.qe_rules.specs.Frame.{IsStack, IsResumed}
+use Rattle.qe_rules.specs.Frame.{HasBegun, IsStack, IsResumed}
 use Rattle.qe_rules.specs.Worker.{Advances, IsChain, IsTurned}
 use Rattle.qe_rules.proofs.Advancing.{done_turn, push_turn, close_turn}
 use Rattle.qe_rules.proofs.Lists.{whole_behind}
@@ -42,11 +42,13 @@ returns-in-Done-clause-of g c =
 -- it needs a key that is not in the chain
 pub returns-in_ok-go_down-in-None-place_of-clause-ok : goal.returns-in_ok-go_down-in-None-place_of-clause-ok
 returns-in_ok-go_down-in-None-place_of-clause-ok g c =
+    let down : HasBegun (g.R.Rules.is_of c.args.rules.now) g.R.Rules.stands_for (c.pop.new.self.items ++ c.resume.new.frame ∷ []) c.in-Needs.need c.go_down.new.self.frames.items =
+    c.in_ok-go_down-in-None-place_of.ensures.frames in
     let same = c.reserve.ensures.pairs in
     let frames =
-    ap (map g.R.Rules.stands_for) c.in_ok-go_down-in-None-place_of.ensures.frames.1.0
-    ∙ (map_snoc g.R.Rules.stands_for (c.pop.new.self.items ++ c.resume.new.frame ∷ []) c.in_ok-go_down-in-None-place_of.ensures.frames.0
-    ∙ ap (λ l. l ++ g.R.Rules.stands_for c.in_ok-go_down-in-None-place_of.ensures.frames.0 ∷ []) (map_snoc g.R.Rules.stands_for c.pop.new.self.items c.resume.new.frame)) in
+    ap (map g.R.Rules.stands_for) down.behind
+    ∙ (map_snoc g.R.Rules.stands_for (c.pop.new.self.items ++ c.resume.new.frame ∷ []) down.frame
+    ∙ ap (λ l. l ++ g.R.Rules.stands_for down.frame ∷ []) (map_snoc g.R.Rules.stands_for c.pop.new.self.items c.resume.new.frame)) in
     subst
     (λ m. Advances g.R.Key.Ord.cmp (g.R.Rules.meaning c.args.rules.now) m c.args.chain.now.keys.items c.reserve.new.self.pairs c.go_down.new.self.keys.items
     × IsStack g.R.Key.Ord.cmp (g.R.Rules.meaning c.args.rules.now) c.reserve.new.self.pairs (map g.R.Rules.stands_for c.go_down.new.self.frames.items) c.go_down.new.self.keys.items)
@@ -63,20 +65,22 @@ returns-in_ok-go_down-in-None-place_of-clause-ok g c =
     (subst (λ m. IsChain g.R.Key.Ord.cmp (g.R.Rules.meaning c.args.rules.now) m c.args.chain.now.keys.items) (sym same) c.requires.chained)
     (subst (λ m. IsStack g.R.Key.Ord.cmp (g.R.Rules.meaning c.args.rules.now) m (map g.R.Rules.stands_for c.args.chain.now.frames.items) c.args.chain.now.keys.items) (sym same) c.requires.stack)
     (ap (map g.R.Rules.stands_for) c.in-Some.ensures.items ∙ map_snoc g.R.Rules.stands_for c.pop.new.self.items c.in-Some.frame)
-    (g.R.Rules.stands_for c.in_ok-go_down-in-None-place_of.ensures.frames.0) c.go_down.new.self.keys.items c.in-Needs.need
+    (g.R.Rules.stands_for down.frame) c.go_down.new.self.keys.items c.in-Needs.need
     (subst (λ s. IsResumed g.R.Key.Ord.cmp (g.R.Rules.meaning c.args.rules.now) (g.R.Rules.stands_for c.in-Some.frame) c.reserve.new.self.pairs s (g.R.Rules.stands_for c.resume.new.frame)) c.in-Needs.is c.in_ok-answer-in-Some.ensures.resumed)
     (rw c.deref.ensures.value at c.in-None-place_of.ensures)
-    c.in_ok-go_down-in-None-place_of.ensures.frames.1.2 c.in_ok-go_down-in-None-place_of.ensures.keys))
+    down.begun c.in_ok-go_down-in-None-place_of.ensures.keys))
 
 pub returns-in_ok-go_down-in-None-place_of-clause-of : goal.returns-in_ok-go_down-in-None-place_of-clause-of
 returns-in_ok-go_down-in-None-place_of-clause-of g c =
-    subst (AllByRecursion (g.R.Rules.is_of c.args.rules.now)) (sym c.in_ok-go_down-in-None-place_of.ensures.frames.1.0)
-    (all_snoc (g.R.Rules.is_of c.args.rules.now) (c.pop.new.self.items ++ c.resume.new.frame ∷ []) c.in_ok-go_down-in-None-place_of.ensures.frames.0
+    let down : HasBegun (g.R.Rules.is_of c.args.rules.now) g.R.Rules.stands_for (c.pop.new.self.items ++ c.resume.new.frame ∷ []) c.in-Needs.need c.go_down.new.self.frames.items =
+    c.in_ok-go_down-in-None-place_of.ensures.frames in
+    subst (AllByRecursion (g.R.Rules.is_of c.args.rules.now)) (sym down.behind)
+    (all_snoc (g.R.Rules.is_of c.args.rules.now) (c.pop.new.self.items ++ c.resume.new.frame ∷ []) down.frame
     (all_snoc (g.R.Rules.is_of c.args.rules.now) c.pop.new.self.items c.resume.new.frame
     (all_front (g.R.Rules.is_of c.args.rules.now) c.pop.new.self.items (c.in-Some.frame ∷ [])
     (subst (AllByRecursion (g.R.Rules.is_of c.args.rules.now)) c.in-Some.ensures.items c.requires.of))
     c.in_ok-answer-in-Some.ensures.of)
-    c.in_ok-go_down-in-None-place_of.ensures.frames.1.1)
+    down.of)
 
 -- it needs a key of the chain
 pub returns-in_ok-answer-in-Some-place_of-clause-ok : goal.returns-in_ok-answer-in-Some-place_of-clause-ok
