@@ -9,7 +9,7 @@ use Rattle.def_query.specs.Meaning.{Meaning}
 use Rattle.def_query.proofs.Walks.{in_append_cases}
 use Rattle.def_core.specs.declared.event.Event.{Event}
 use Rattle.def_core.specs.declared.event.Event.TheVariants.{Ask, Publish, Look, Abandon}
-use Rattle.def_core.specs.Laws.{AskedUnder, IsUnder, keys_of, asks, asked_by}
+use Rattle.def_core.specs.Laws.{AskedUnder, IsUnder, keys_of, asks, asked_by, roots as roots_of}
 use Rattle.def_core.specs.Legal.{MayFollow, Legal}
 use Rattle.def_core.proofs.Histories.{always}
 use Rattle.def_core.proofs.Lists.{append_nil, append_more}
@@ -54,12 +54,16 @@ module _ {K A : Type 0} (cmp : K → K → Ordering) (total : IsTotalOrder cmp) 
         | inr new ↦ one_under n h e k (rooted cmp total r lawful n h legal) m new
       ])
 
+  under :
+      (n : ℕ) (h : List (Event K A)) → Legal cmp r n h → (k : K) → IsIn k (keys_of cmp r (asks cmp r h))
+      → IsUnder cmp r (keys_of cmp r (roots_of cmp r n h)) k
+  under n h legal k i = subst (λ l. IsUnder cmp r l k) (same_roots cmp r n h) (all_under n h legal k i)
+
   pub asked_lie_under : AskedUnder cmp r
   asked_lie_under n h legal =
       let once = worked_once cmp total r lawful n h legal in
-      let under = λ k i. subst (λ l. IsUnder cmp r l k) (same_roots cmp r n h) (all_under n h legal k i) in
       record {
-        under = under;
-        published = λ idle all k i. once.whole idle all k (under k i);
-        ended = λ stays idle k i. once.whole idle (once.ended stays idle) k (under k i);
+        under = under n h legal;
+        published = λ idle all k i. once.whole idle all k (under n h legal k i);
+        ended = λ stays idle k i. once.whole idle (once.ended stays idle) k (under n h legal k i);
       }

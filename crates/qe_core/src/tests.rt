@@ -7,7 +7,7 @@ ghost use Rattle.def_query.proofs.Edges.{edges_lawful};
 ghost use Rattle.qe_rules.specs.Frame.{IsRight};
 
 use crate::{Core, Event, Outcome};
-use qe_rules::{Anew, Cycle, Known, Rules, Step, Steps, resume_anew};
+use qe_rules::{Anew, Bodies, Cycle, Known, Rules, Step, Steps, resume_anew};
 use sl_base::{List, NoMemory};
 use std::alloc::Global;
 use std::process::Abort;
@@ -20,6 +20,38 @@ type Told = Result<Option<u8>, List<u8>>;
 // Rules under which no key needs another one. The machine works out no body: who calls it does.
 #[derive(Drop)]
 struct Plain;
+
+impl Bodies for Plain {
+    type Key = u8;
+
+    type Answer = Told;
+
+    ghost meaning = { λ r. edge_meaning [] 0 };
+
+    fn step<L: Ledger>(
+        &self,
+        _alloc: Global,
+        key: &u8,
+        _known: &Known<u8, Told>,
+        steps: &mut Steps<L>,
+    ) -> Result<Step<u8, Told>, NoMemory> {
+        steps.tick();
+        Ok(Step::Done(Ok(if *key == 0 { Some(0) } else { None })))
+    }
+
+    fn copy_key(&self, _alloc: Global, key: &u8) -> Result<u8, NoMemory> {
+        Ok(*key)
+    }
+
+    fn copy_answer(&self, alloc: Global, answer: &Told) -> Result<Told, NoMemory> {
+        match answer {
+            Ok(fault) => Ok(Ok(*fault)),
+            Err(cycle) => told(alloc, cycle.as_slice()),
+        }
+    }
+
+    ghost lawful = { λ r. edges_lawful [] 0 };
+}
 
 impl Rules for Plain {
     type Key = u8;
@@ -36,13 +68,12 @@ impl Rules for Plain {
 
     fn step<L: Ledger>(
         &self,
-        _alloc: Global,
+        alloc: Global,
         key: &u8,
-        _known: &Known<u8, Told>,
+        known: &Known<u8, Told>,
         steps: &mut Steps<L>,
     ) -> Result<Step<u8, Told>, NoMemory> {
-        steps.tick();
-        Ok(Step::Done(Ok(if *key == 0 { Some(0) } else { None })))
+        Bodies::step(self, alloc, key, known, steps)
     }
 
     fn begin(&self, alloc: Global, key: &u8) -> Result<Anew<u8, Told>, NoMemory> {
@@ -63,15 +94,12 @@ impl Rules for Plain {
         told(alloc, cycle.as_slice())
     }
 
-    fn copy_key(&self, _alloc: Global, key: &u8) -> Result<u8, NoMemory> {
-        Ok(*key)
+    fn copy_key(&self, alloc: Global, key: &u8) -> Result<u8, NoMemory> {
+        Bodies::copy_key(self, alloc, key)
     }
 
     fn copy_answer(&self, alloc: Global, answer: &Told) -> Result<Told, NoMemory> {
-        match answer {
-            Ok(fault) => Ok(Ok(*fault)),
-            Err(cycle) => told(alloc, cycle.as_slice()),
-        }
+        Bodies::copy_answer(self, alloc, answer)
     }
 
     ghost lawful = { λ r. edges_lawful [] 0 };

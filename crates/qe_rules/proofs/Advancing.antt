@@ -1,5 +1,5 @@
 -- The ways in which a worker goes on.
-use Rattle.std.proofs.Common.{◌≡◌, inl, inr, ℕ, suc, ◌+◌, ◌<◌, false, true, List, [], ◌∷◌, ◌++◌, length, take, drop, get_or, map, None, refl, sym, ◌∙◌, ap, subst}
+use Rattle.std.proofs.Common.{◌≡◌, inl, inr, ℕ, suc, ◌<◌, false, true, List, [], ◌∷◌, ◌++◌, length, take, drop, get_or, map, None, refl, sym, ◌∙◌, subst}
 use Rattle.std.specs.Cmp.{IsTotalOrder}
 use Rattle.std.specs.Ordering.{is_eq}
 use Rattle.std.specs.declared.cmp.Ordering.{Ordering}
@@ -18,7 +18,7 @@ use Rattle.qe_rules.specs.Frame.{Frame, IsResumed, IsStack}
 use Rattle.qe_rules.specs.declared.frame.Stage.TheVariants.{Begun}
 use Rattle.qe_rules.specs.Worker.{IsKnown, IsChain, IsTaken, IsTurned, Advances}
 use Rattle.qe_rules.proofs.Closing.{key_at, lacks_key, need_unsettled, turned_cycle}
-use Rattle.qe_rules.proofs.Lists.{last_at, same_last, split_at}
+use Rattle.qe_rules.proofs.Lists.{same_last, split_at}
 use Rattle.qe_rules.proofs.Stacks.{stack_keys, top_within, resumed_body, pop_stack, push_stack}
 use Rattle.qe_rules.proofs.Working.{known_more, known_top}
 

@@ -12,9 +12,8 @@ use Rattle.def_query.specs.Meaning.{Meaning}
 use Rattle.def_query.specs.declared.step.Step.{Step}
 use Rattle.def_query.specs.declared.step.Step.TheVariants.{Needs, Done}
 use Rattle.def_query.proofs.Maps.{get_cases, has_or_lacks, one_value, within_cons}
-use Rattle.qe_rules.specs.Frame.{Frame, IsResumed, IsRight, CanResume, Resumes, WaitsFor, key_of_first, AreWaiting, IsStack}
+use Rattle.qe_rules.specs.Frame.{Frame, IsResumed, IsRight, CanResume, Resumes, WaitsFor, AreWaiting, IsStack}
 use Rattle.qe_rules.specs.Worker.{IsTaken, IsKnown}
-use Rattle.qe_rules.specs.declared.frame.Stage.{Stage}
 use Rattle.qe_rules.specs.declared.frame.Stage.TheVariants.{Begun, Waiting}
 use Rattle.qe_rules.proofs.Lists.{same_front, same_last}
 use Rattle.qe_rules.proofs.Working.{known_top}

@@ -2,6 +2,7 @@
 
 ghost use Rattle.std.specs.Prelude.{◌≡◌, ◌+◌, ◌∷◌, ◌++◌, [], length, IfOk, OnOk, OnErr, None};
 ghost use Rattle.def_query.specs.Answer.{IsCorrect};
+ghost use Rattle.def_query.specs.Lawful.{IsLawful};
 ghost use Rattle.def_query.specs.Map.{get};
 ghost use Rattle.def_query.specs.Meaning.{Meaning};
 ghost use Rattle.qe_rules.specs.Anew.{AreKeysOf, pairs_in};
@@ -12,7 +13,6 @@ ghost use Rattle.qe_rules.specs.declared.frame.Stage.TheVariants.{Begun};
 
 use crate::frame::Stage;
 use crate::known::Known;
-use crate::rules::Rules;
 use crate::steps::Steps;
 use def_query::Step;
 use sl_base::NoMemory;
@@ -20,7 +20,37 @@ use std::alloc::Global;
 use std::marker::Model;
 use std::sync::ledger::Ledger;
 
-/// A frame for any rules. It keeps copies of the answers that its body has used, and works the body anew
+/// The bodies of keys, from which `resume_anew` makes frames. Its members are those of `Rules` of these
+/// names.
+pub trait Bodies {
+    type Key: Ord + Drop;
+
+    type Answer: Drop;
+
+    ghost meaning: { Self → Meaning Self.Key Self.Answer };
+
+    fn step<L: Ledger>(
+        &self,
+        alloc: Global,
+        key: &Self::Key,
+        known: &Known<Self::Key, Self::Answer>,
+        steps: &mut Steps<L>,
+    ) -> Result<Step<Self::Key, Self::Answer>, NoMemory>
+        requires { IsCorrect Self.Key.cmp (meaning self.now) known.now.pairs }
+        ensures body { IfOk result (λ s. s ≡ (meaning self.now).body key.now known.now.pairs) }
+        ensures steps { IfOk result (λ s. steps.new ≡ after_step steps.old s) }
+        ensures err { OnErr result (steps.new ≡ steps.old) };
+
+    fn copy_key(&self, alloc: Global, key: &Self::Key) -> Result<Self::Key, NoMemory>
+        ensures { IfOk result (λ k. k ≡ key.now) };
+
+    fn copy_answer(&self, alloc: Global, answer: &Self::Answer) -> Result<Self::Answer, NoMemory>
+        ensures { IfOk result (λ a. a ≡ answer.now) };
+
+    ghost lawful: { (bodies : Self) → IsLawful Self.Key.cmp (meaning bodies) };
+}
+
+/// A frame for any bodies. It keeps copies of the answers that its body has used, and works the body anew
 /// over these each time that it is resumed.
 #[derive(Drop)]
 pub struct Anew<K: Ord + Drop, A: Drop> {
@@ -60,27 +90,27 @@ impl<K: Ord + Drop, A: Drop> Anew<K, A> {
     }
 }
 
-/// Goes on with a frame as `Rules::resume` is to, by `Rules::step`: of rules whose frames are `Anew`,
+/// Goes on with a frame as `Rules::resume` is to, by `Bodies::step`. In rules whose frames are `Anew`,
 /// `is_of` is `IsRight`.
-pub fn resume_anew<R: Rules, L: Ledger>(
+pub fn resume_anew<B: Bodies, L: Ledger>(
     alloc: Global,
-    rules: &R,
-    frame: &mut Anew<R::Key, R::Answer>,
-    known: &Known<R::Key, R::Answer>,
+    bodies: &B,
+    frame: &mut Anew<B::Key, B::Answer>,
+    known: &Known<B::Key, B::Answer>,
     steps: &mut Steps<L>,
-) -> Result<Step<R::Key, R::Answer>, NoMemory>
-    requires right { IsRight R.Key.cmp (R.meaning rules.now) frame.old }
-    requires correct { IsCorrect R.Key.cmp (R.meaning rules.now) known.now.pairs }
-    ensures resumed { IfOk result (λ s. IsResumed R.Key.cmp (R.meaning rules.now)
+) -> Result<Step<B::Key, B::Answer>, NoMemory>
+    requires right { IsRight B.Key.cmp (B.meaning bodies.now) frame.old }
+    requires correct { IsCorrect B.Key.cmp (B.meaning bodies.now) known.now.pairs }
+    ensures resumed { IfOk result (λ s. IsResumed B.Key.cmp (B.meaning bodies.now)
         frame.old known.now.pairs s frame.new) }
-    ensures right { OnOk result (IsRight R.Key.cmp (R.meaning rules.now) frame.new) }
+    ensures right { OnOk result (IsRight B.Key.cmp (B.meaning bodies.now) frame.new) }
     ensures steps { IfOk result (λ s. steps.new ≡ after_step steps.old s) }
     ensures err { OnErr result (steps.new ≡ steps.old) }
 {
     let used = &mut frame.used;
     let step = work_anew(
         alloc,
-        rules,
+        bodies,
         &frame.key,
         used,
         &mut frame.order,
@@ -95,56 +125,56 @@ pub fn resume_anew<R: Rules, L: Ledger>(
 }
 
 // Works the body of a key over the answers that it has used, and uses those of `known` as it needs them.
-fn work_anew<R: Rules, L: Ledger>(
+fn work_anew<B: Bodies, L: Ledger>(
     alloc: Global,
-    rules: &R,
-    key: &R::Key,
-    used: &mut Known<R::Key, R::Answer>,
-    order: &mut Vec<R::Key>,
-    known: &Known<R::Key, R::Answer>,
+    bodies: &B,
+    key: &B::Key,
+    used: &mut Known<B::Key, B::Answer>,
+    order: &mut Vec<B::Key>,
+    known: &Known<B::Key, B::Answer>,
     steps: &mut Steps<L>,
-) -> Result<Step<R::Key, R::Answer>, NoMemory>
-    requires used { IsCorrect R.Key.cmp (R.meaning rules.now) used.old.pairs }
-    requires keys { AreKeysOf R.Key.cmp used.old.pairs order.old.items }
-    requires correct { IsCorrect R.Key.cmp (R.meaning rules.now) known.now.pairs }
-    ensures worked { IfOk result (λ s. IsWorked R.Key.cmp (R.meaning rules.now) key.now
-        known.now.pairs (pairs_in R.Key.cmp used.old.pairs order.old.items) s
-        (pairs_in R.Key.cmp used.new.pairs order.new.items)) }
-    ensures used { OnOk result (IsCorrect R.Key.cmp (R.meaning rules.now) used.new.pairs) }
-    ensures keys { AreKeysOf R.Key.cmp used.new.pairs order.new.items }
+) -> Result<Step<B::Key, B::Answer>, NoMemory>
+    requires used { IsCorrect B.Key.cmp (B.meaning bodies.now) used.old.pairs }
+    requires keys { AreKeysOf B.Key.cmp used.old.pairs order.old.items }
+    requires correct { IsCorrect B.Key.cmp (B.meaning bodies.now) known.now.pairs }
+    ensures worked { IfOk result (λ s. IsWorked B.Key.cmp (B.meaning bodies.now) key.now
+        known.now.pairs (pairs_in B.Key.cmp used.old.pairs order.old.items) s
+        (pairs_in B.Key.cmp used.new.pairs order.new.items)) }
+    ensures used { OnOk result (IsCorrect B.Key.cmp (B.meaning bodies.now) used.new.pairs) }
+    ensures keys { AreKeysOf B.Key.cmp used.new.pairs order.new.items }
     ensures steps { IfOk result (λ s. steps.new ≡ after_step steps.old s) }
     ensures err { OnErr result (steps.new ≡ steps.old) }
 {
     loop {
-        let need = match rules.step(alloc, key, used, steps)? {
+        let need = match bodies.step(alloc, key, used, steps)? {
             Step::Done(answer) => return Ok(Step::Done(answer)),
             Step::Needs(need) => need,
         };
         match known.get(&need) {
             None => return Ok(Step::Needs(need)),
-            Some(answer) => use_answer(alloc, rules, used, order, need, answer)?,
+            Some(answer) => use_answer(alloc, bodies, used, order, need, answer)?,
         }
     }
 }
 
 // Uses an answer.
-fn use_answer<R: Rules>(
+fn use_answer<B: Bodies>(
     alloc: Global,
-    rules: &R,
-    used: &mut Known<R::Key, R::Answer>,
-    order: &mut Vec<R::Key>,
-    need: R::Key,
-    answer: &R::Answer,
+    bodies: &B,
+    used: &mut Known<B::Key, B::Answer>,
+    order: &mut Vec<B::Key>,
+    need: B::Key,
+    answer: &B::Answer,
 ) -> Result<(), NoMemory>
-    requires { get R.Key.cmp used.old.pairs need ≡ None }
-    ensures used { OnOk result (IsSameMap R.Key.cmp used.new.pairs
+    requires { get B.Key.cmp used.old.pairs need ≡ None }
+    ensures used { OnOk result (IsSameMap B.Key.cmp used.new.pairs
         ((need, answer.now) ∷ used.old.pairs)) }
     ensures one { OnOk result (length used.new.pairs ≡ length used.old.pairs + 1) }
     ensures order { OnOk result (order.new.items ≡ order.old.items ++ need ∷ []) }
     ensures err { OnErr result ((used.new.pairs ≡ used.old.pairs) × (order.new.items ≡ order.old.items)) }
 {
-    let answer = rules.copy_answer(alloc, answer)?;
-    let key = rules.copy_key(alloc, &need)?;
+    let answer = bodies.copy_answer(alloc, answer)?;
+    let key = bodies.copy_key(alloc, &need)?;
     used.reserve()?;
     order.push(key)?;
     let _put = used.put(need, answer);

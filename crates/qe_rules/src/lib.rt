@@ -15,7 +15,7 @@ mod steps;
 mod worker;
 
 pub use alone_asker::AloneAsker;
-pub use anew::{Anew, resume_anew};
+pub use anew::{Anew, Bodies, resume_anew};
 pub use asker::Asker;
 pub use cycle::Cycle;
 pub use def_query::Step;

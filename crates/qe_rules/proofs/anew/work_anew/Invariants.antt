@@ -5,7 +5,7 @@ use Rattle.qe_rules.proofs.anew.work_anew.Given as goal
 abbrev pub invariant-loop-answer : goal.invariant-loop-answer
 invariant-loop-answer g l = record {
   going :
-      IsGoing g.R.Key.Ord.cmp g.met.R.Key.Ord.total (g.R.Rules.meaning l.rules) (g.met.R.Rules.lawful l.rules)
+      IsGoing g.B.Key.Ord.cmp g.met.B.Key.Ord.total (g.B.Bodies.meaning l.bodies) (g.met.B.Bodies.lawful l.bodies)
       l.known.pairs l.fn.used.pairs l.fn.order.items l.used.pairs l.order.items;
   steps : l.steps ≡ l.fn.steps;
 }

@@ -1,4 +1,4 @@
-use Rattle.std.proofs.Common.{◌≡◌, ◌∙◌, List, [], ◌∷◌, ◌++◌, length, map, drop, sym, subst, ap}
+use Rattle.std.proofs.Common.{◌∙◌, [], ◌∷◌, ◌++◌, map, drop, sym, subst, ap}
 use Rattle.std.specs.List.{AllByRecursion}
 use Rattle.def_query.specs.Answer.{IsCorrect}
 use Rattle.qe_rules.specs.Frame.{HasBegun, IsStack, IsResumed}
