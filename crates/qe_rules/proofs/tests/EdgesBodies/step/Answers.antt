@@ -3,7 +3,7 @@ use Rattle.std.proofs.lemmas.List.{get_or_default}
 use Rattle.def_query.specs.declared.step.Step.TheVariants.{Done}
 use Rattle.def_query.specs.Edges.{body_over, last_of, uses}
 use Rattle.def_query.proofs.Edges.{edge_used}
-use Rattle.qe_rules.proofs.tests.EdgesRules.step.Goals as goal
+use Rattle.qe_rules.proofs.tests.EdgesBodies.step.Goals as goal
 
 -- the cycle that is used is told
 pub returns-in-Some-Err-clause-body : goal.returns-in-Some-Err-clause-body

@@ -1,6 +1,6 @@
 use Rattle.std.proofs.Common.{◌≡◌, drop}
 use Rattle.def_query.specs.Edges.{body_over, last_of}
-use Rattle.qe_rules.proofs.tests.EdgesRules.step.Given as goal
+use Rattle.qe_rules.proofs.tests.EdgesBodies.step.Given as goal
 
 -- no edge so far decides
 abbrev pub invariant-loop-edge : goal.invariant-loop-edge
