@@ -201,6 +201,7 @@ module _ (sources : Sources) where
     needs_stay = λ k m n y e w l. (bodies_are_sound k.kind (body sources k.kind k.path)).needs_stay m n y e w l;
     needs_lacking = λ k m y e. (bodies_are_sound k.kind (body sources k.kind k.path)).needs_lacking m y e;
     circular_stays = λ k m y c e. (bodies_are_sound k.kind (body sources k.kind k.path)).circular_stays m y c e;
+    circular_used = λ k m c e. (bodies_are_sound k.kind (body sources k.kind k.path)).circular_used m c e;
     bound_has = λ k. inl refl;
     bound_closed = bound_closed;
   }

@@ -153,11 +153,15 @@ module _ (P : Key → Type 0) (H : (key : Key) → Holds key.kind → Type 0) (p
     (declared : (text : List ℕ) (k : Key) → H (module_key kind.Syntax path.module) text
     → IsIn k (keys_of path.module (decls_in text)) → P k) where
   pub uses_alias : UsesOnly P H (alias_part path)
-  uses_alias =
-      (syntax, λ text h. uses_alias_at P H (scope_in path.module text) sees (λ k i. declared text k h i) path
-      (declared_at (decls_in text) path.parts))
+  uses_alias = (
+    syntax,
+    λ text h. uses_alias_at P H (scope_in path.module text) sees (λ k i. declared text k h i) path
+        (declared_at (decls_in text) path.parts),
+  )
 
   pub uses_const : UsesOnly P H (const_part path)
-  uses_const =
-      (syntax, λ text h. uses_const_at P H (scope_in path.module text) sees (λ k i. declared text k h i) path
-      (declared_at (decls_in text) path.parts))
+  uses_const = (
+    syntax,
+    λ text h. uses_const_at P H (scope_in path.module text) sees (λ k i. declared text k h i) path
+        (declared_at (decls_in text) path.parts),
+  )

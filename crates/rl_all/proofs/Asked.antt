@@ -11,11 +11,11 @@ use Rattle.sl_key.specs.declared.answer.Answer.{Answer}
 use Rattle.sl_key.specs.declared.key.Key.{Key}
 use Rattle.sl_key.specs.Order.{module_key}
 use Rattle.sl_key.specs.declared.key.Kind.TheVariants.{Syntax as syntax_kind}
+use Rattle.rl_all.specs.Asking.{Asks, Gains, keys_for}
 
 -- the key of a module's syntax
 abbrev pub Syntax : List ℕ → Key
 Syntax name = module_key syntax_kind name
-use Rattle.rl_all.specs.Asking.{Asks, Gains, keys_for}
 
 -- ---- one part after another
 

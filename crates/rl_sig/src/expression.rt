@@ -79,13 +79,7 @@ impl Reader<'_> {
     }
 
     // The value of an operator on two values.
-    fn combined(
-        &self,
-        operator: Operator,
-        token: Token,
-        left: Value,
-        right: Value,
-    ) -> Flow<Value>
+    fn combined(&self, operator: Operator, token: Token, left: Value, right: Value) -> Flow<Value>
         ensures { Tells result (run (facts_of self.now) (combined (scope_of self.now) (arithmetic_of (operator_of operator))
             (token_in (text_of self.now) token) left right)) }
     {

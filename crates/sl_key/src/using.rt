@@ -34,11 +34,7 @@ pub fn finish(read: Flow<Good>) -> Result<Step<Key, Answer>, NoMemory>
 }
 
 /// The declarations of a module.
-pub fn declarations_of(
-    alloc: Global,
-    facts: &Facts,
-    module: &Name,
-) -> Flow<Shared<Declarations>>
+pub fn declarations_of(alloc: Global, facts: &Facts, module: &Name) -> Flow<Shared<Declarations>>
     ensures { Tells result (used facts.now.pairs (module_key Syntax module.now)) }
 {
     let key = Key::of_module(alloc, Kind::Syntax, module)?;
