@@ -1,6 +1,4 @@
 mod Rows
-pub mod Steady
-pub mod Bodies
-pub mod Needed
+pub mod Uses
 pub mod Lawful
 pub mod Replies

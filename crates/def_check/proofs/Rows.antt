@@ -3,13 +3,14 @@ use Rattle.std.specs.Prelude.{◌≡◌, negsuc, ℕ, ◌++◌, List, [], ◌∷
 use Rattle.sl_base.specs.declared.diag.Diag.{Diag}
 use Rattle.sl_base.specs.declared.diag.Site.TheVariants.{Request}
 use Rattle.sl_key.specs.Names.{path_in}
-use Rattle.sl_key.specs.Order.{key_cmp}
+use Rattle.sl_key.specs.Flow.{Facts}
+use Rattle.sl_key.specs.Order.{key_cmp, module_key, path_key}
 use Rattle.sl_key.specs.declared.answer.Answer.{Answer}
 use Rattle.sl_key.specs.declared.answer.Answer.TheVariants.{Good, Bad, Circular}
 use Rattle.sl_key.specs.declared.answer.Good.TheVariants as held
 use Rattle.sl_key.specs.declared.value.Value.TheVariants.{Int, Uint}
 use Rattle.sl_key.specs.declared.key.Key.{Key}
-use Rattle.sl_key.specs.declared.key.Key.TheVariants.{Syntax, Imports, Alias, Const}
+use Rattle.sl_key.specs.declared.key.Kind.TheVariants.{Syntax, Imports, Alias, Const}
 use Rattle.sl_key.specs.declared.request.Request.TheVariants.{Make}
 use Rattle.sl_key.specs.declared.request.Term.TheVariants.{Load}
 use Rattle.def_query.specs.Map.{get}
@@ -19,8 +20,8 @@ use Rattle.def_syntax.specs.Lexed.{lexed}
 use Rattle.def_syntax.specs.Syntax.{syntax_in}
 use Rattle.def_sources.specs.Sources.{Sources}
 use Rattle.def_check.specs.Body.{body_of}
-use Rattle.def_check.specs.Parts.{Facts, diagnostic}
 use Rattle.def_check.specs.Reply.{told_for}
+use Rattle.def_check.specs.Syntax.{diagnostic}
 
 -- a module `m` with these lines
 abbrev line : List ℕ
@@ -49,16 +50,16 @@ abbrev at : ℕ → ℕ → ℕ → List (List ℕ) → Diag
 at line column = diagnostic (codes "m") (record { line = line; column = column })
 
 abbrev syntax : Key
-syntax = Syntax (codes "m")
+syntax = module_key Syntax (codes "m")
 
 abbrev imports : Key
-imports = Imports (codes "m")
+imports = module_key Imports (codes "m")
 
 abbrev alias : List ℕ → Key
-alias name = Alias (path_in (codes "m") name)
+alias name = path_key Alias (path_in (codes "m") name)
 
 abbrev const : List ℕ → Key
-const name = Const (path_in (codes "m") name)
+const name = path_key Const (path_in (codes "m") name)
 
 -- a bool is no int
 abbrev one_bad : Sources

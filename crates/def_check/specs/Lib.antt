@@ -1,5 +1,4 @@
 pub mod Values
-pub mod Parts
 pub mod Evaluate
 pub mod Syntax
 pub mod Body

@@ -1,5 +1,5 @@
 -- What a request is replied, and how much work it takes.
-use Rattle.std.specs.Prelude.{◌≡◌, ◌↔◌, ℕ, List, [], ◌∷◌, ◌++◌, map, Option, Some, None}
+use Rattle.std.specs.Prelude.{◌≡◌, ◌↔◌, ℕ, List, [], ◌∷◌, map, Option, Some, None}
 use Rattle.std.specs.Cmp.Lexicographic.{slice_cmp}
 use Rattle.std.specs.List.{AllByRecursion, flat_map}
 use Rattle.std.specs.Option.{option_and_then, option_map_or}
@@ -10,13 +10,14 @@ use Rattle.sl_base.specs.declared.diag.Diag.{Diag}
 use Rattle.sl_base.specs.declared.diag.Site.{Site}
 use Rattle.sl_base.specs.declared.diag.Site.TheVariants.{Request as Whole, Source}
 use Rattle.sl_base.specs.declared.place.Place.{Place}
-use Rattle.sl_key.specs.Names.{declared_at, name_of}
-use Rattle.sl_key.specs.Order.{key_cmp, module_of, parts_of}
+use Rattle.sl_key.specs.Fault.{first_place, place_of, told_at}
+use Rattle.sl_key.specs.Names.{declared_at, name_of, path_text}
+use Rattle.sl_key.specs.Order.{key_cmp, module_key, module_of, parts_of}
 use Rattle.sl_key.specs.declared.answer.Answer.{Answer}
 use Rattle.sl_key.specs.declared.answer.Answer.TheVariants.{Good, Bad, Spoiled, Circular}
 use Rattle.sl_key.specs.declared.key.Key.{Key}
-use Rattle.sl_key.specs.declared.key.Key.TheVariants.{Syntax}
-use Rattle.sl_key.specs.declared.path.Part.{Part}
+use Rattle.sl_key.specs.declared.fault.Fault.TheVariants.{NoModule}
+use Rattle.sl_key.specs.declared.key.Kind.TheVariants.{Syntax}
 use Rattle.sl_key.specs.declared.request.Reply.{Reply}
 use Rattle.sl_key.specs.declared.request.Reply.TheVariants.{Made, Failed}
 use Rattle.sl_key.specs.declared.request.Request.{Request}
@@ -29,19 +30,18 @@ use Rattle.def_query.specs.Settles.{Depends}
 use Rattle.def_slang.specs.Diagnostic.{circular, message}
 use Rattle.def_sources.specs.Sources.{Sources}
 use Rattle.def_check.specs.Body.{declarations_in, meaning_of}
-use Rattle.def_check.specs.Parts.{diagnostic, place_of}
 use Rattle.def_check.specs.Roots.{asked_for, roots_of}
-use Rattle.def_check.specs.Syntax.{first_place}
+use Rattle.def_check.specs.Syntax.{diagnostic}
 
 -- a key is told as its path, and a module's own key as the module
 abbrev pub key_text : Key → List ℕ
-key_text key = module_of key ++ flat_map (λ (part : Part). 46 ∷ part.name) (parts_of key)
+key_text key = path_text key.path
 
 module _ (sources : Sources) (answer : Key → Answer) where
   -- the place of the name of a key's declaration; a module's own key stands at the module's first place
   abbrev pub key_place : Key → Place
   key_place key =
-      let decls = declarations_in (answer (Syntax (module_of key))) in
+      let decls = declarations_in (answer (module_key Syntax (module_of key))) in
       option_map_or place_of (option_and_then name_of (declared_at decls (parts_of key))) first_place
 
   -- a cycle is told at its least key
@@ -65,7 +65,7 @@ module _ (sources : Sources) (answer : Key → Answer) where
   -- what is told of a module with these bytes, and of an absent one
   abbrev pub told_of : List ℕ → Option (List ℕ) → List Diag
   told_of name (Some bytes) = flat_map (λ key. told_by (answer key)) (asked_for sources answer name)
-  told_of name None = record { site = Whole; code = 201; args = name ∷ [] } ∷ []
+  told_of name None = told_at Whole (NoModule name) ∷ []
 
   -- all that a request is told, in the order in which its keys are asked
   abbrev pub told_for : Request → List Diag

@@ -2,12 +2,12 @@
 use Rattle.std.specs.Prelude.{ℕ, List, [], ◌∷◌, ◌++◌, Option, Some, None}
 use Rattle.std.specs.List.{flat_map}
 use Rattle.sl_key.specs.Names.{decls_in, keys_of}
-use Rattle.sl_key.specs.Order.{module_of}
+use Rattle.sl_key.specs.Order.{module_key, module_of}
 use Rattle.sl_key.specs.declared.answer.Answer.{Answer}
 use Rattle.sl_key.specs.declared.answer.Answer.TheVariants.{Good, Bad, Spoiled, Circular}
 use Rattle.sl_key.specs.declared.answer.Good.TheVariants as held
 use Rattle.sl_key.specs.declared.key.Key.{Key}
-use Rattle.sl_key.specs.declared.key.Key.TheVariants.{Syntax, Imports}
+use Rattle.sl_key.specs.declared.key.Kind.TheVariants.{Syntax, Imports}
 use Rattle.sl_key.specs.declared.request.Request.{Request}
 use Rattle.sl_key.specs.declared.request.Request.TheVariants.{Make}
 use Rattle.sl_key.specs.declared.request.Term.TheVariants.{Load}
@@ -17,12 +17,13 @@ use Rattle.def_sources.specs.Sources.{Sources}
 module _ (sources : Sources) (answer : Key → Answer) where
   -- behind a module's syntax its imports are asked, and the key of each declaration in order
   abbrev pub behind_syntax : List ℕ → Answer → List Key
-  behind_syntax name (Good (held.Syntax text)) = Imports name ∷ keys_of name (decls_in text)
+  behind_syntax name (Good (held.Syntax text)) = module_key Imports name ∷ keys_of name (decls_in text)
   behind_syntax name _ = []
 
   -- the keys that are asked for a module with these bytes, and none for an absent module
   abbrev pub asked_of : List ℕ → Option (List ℕ) → List Key
-  asked_of name (Some bytes) = Syntax name ∷ behind_syntax name (answer (Syntax name))
+  asked_of name (Some bytes) =
+      module_key Syntax name ∷ behind_syntax name (answer (module_key Syntax name))
   asked_of name None = []
 
   -- the keys that are asked for a module
@@ -35,7 +36,7 @@ module _ (sources : Sources) (answer : Key → Answer) where
   pointed_to (Bad told) = []
   pointed_to (Spoiled culprit) = culprit ∷ []
   pointed_to (Circular []) = []
-  pointed_to (Circular (least ∷ others)) = Syntax (module_of least) ∷ []
+  pointed_to (Circular (least ∷ others)) = module_key Syntax (module_of least) ∷ []
 
   -- the keys of a request: those that are asked for it, and then what their answers point to
   abbrev pub roots_of : Request → List Key

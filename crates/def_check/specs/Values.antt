@@ -1,6 +1,6 @@
 -- Types, values, and how values are converted and combined. An integer type has a width, in bits: its
 -- values are residues modulo 2 to the width, which an int shows as the numbers from the least negative one.
-use Rattle.std.specs.Prelude.{ℕ, ◌+◌, ◌-◌, ◌*◌, ◌%◌, ◌^◌, List, Option, Some, None, ℤ, codes}
+use Rattle.std.specs.Prelude.{ℕ, ◌+◌, ◌-◌, ◌*◌, ◌%◌, ◌^◌, Option, Some, None, ℤ}
 use mir.Val.{bits}
 use Rattle.std.specs.Int.{Width, w32, cast_signed, cast_unsigned, int_wrapping_add, int_wrapping_sub, int_wrapping_mul}
 use Rattle.sl_key.specs.declared.value.Ty.{Ty}
@@ -10,12 +10,6 @@ use Rattle.sl_key.specs.declared.value.Value.TheVariants.{Bool, Int, Uint}
 use Rattle.sl_key.specs.declared.value.Arithmetic.{Arithmetic}
 use Rattle.sl_key.specs.declared.value.Arithmetic.TheVariants.{Add, Subtract, Multiply}
 use Rattle.def_tree.specs.Operator as written
-
--- how a type is told
-abbrev pub text_of : Ty → List ℕ
-text_of type.Bool = codes "bool"
-text_of type.Int = codes "int"
-text_of type.Uint = codes "uint"
 
 -- the type of a value
 abbrev pub type_of : Value → Ty
@@ -43,12 +37,6 @@ arithmetic_of written.Add = Some Add
 arithmetic_of written.Subtract = Some Subtract
 arithmetic_of written.Multiply = Some Multiply
 arithmetic_of _ = None
-
--- the mark of an operator
-abbrev pub mark_of : Arithmetic → List ℕ
-mark_of Add = codes "+"
-mark_of Subtract = codes "-"
-mark_of Multiply = codes "*"
 
 -- an operator on ints: what is left of the result in the type's width
 abbrev pub int_result : Width → Arithmetic → ℤ → ℤ → ℤ

@@ -16,7 +16,8 @@ use Rattle.def_core.specs.declared.event.Event.TheVariants.{Ask, Publish, Look, 
 use Rattle.def_core.specs.State.{Caller, State, opening, caller_at, with_caller, idle, last, without_last}
 use Rattle.def_core.specs.Replay.{caller_of, after, replay}
 use Rattle.def_core.specs.Legal.{MayAsk, MayFollow, IsNext, HasAsked, top, Legal}
-use Rattle.def_core.specs.Laws.{IsUnder, IsClosure, root_of, asked_on, roots, HasNoAbandon}
+use Rattle.def_core.specs.Laws.{IsUnder, IsClosure, HasNoAbandon}
+use Rattle.def_core.proofs.RootKeys.{root_of, asked_on, roots}
 use Rattle.def_core.proofs.Closing.{last_claimed}
 use Rattle.def_core.proofs.Lists.{append_nil, append_more, length_more, length_within, last_in, last_some, last_none}
 use Rattle.def_core.proofs.Chains.{Holds, one_holder}

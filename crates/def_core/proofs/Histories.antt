@@ -8,7 +8,7 @@ use Rattle.def_core.specs.declared.outcome.Outcome.{Outcome}
 use Rattle.def_core.specs.State.{State, opening, last}
 use Rattle.def_core.specs.Replay.{caller_of, outcome, after, replay_from, replay, steps_from, steps}
 use Rattle.def_core.specs.Legal.{steps_of, pair_of, pair_of_last, told, MayFollow, Legal}
-use Rattle.def_core.specs.Laws.{root_of, roots_from, roots}
+use Rattle.def_core.proofs.RootKeys.{root_of, roots_from, roots}
 use Rattle.def_core.proofs.Lists.{append_nil, append_more, last_snoc}
 
 module _ {X : Type 0} where

@@ -6,6 +6,7 @@ pub mod Events
 pub mod Tidy
 pub mod Moves
 pub mod EventKinds
+pub mod RootKeys
 pub mod Histories
 pub mod Lines
 pub mod Effects
@@ -22,5 +23,6 @@ pub mod Whole
 pub mod Closure
 pub mod Bounded
 pub mod WorkedOnce
+pub mod AskedUnder
 pub mod Rows
 pub mod Ring

@@ -14,7 +14,8 @@ use Rattle.def_core.specs.declared.event.Event.TheVariants.{Ask, Publish, Look, 
 use Rattle.def_core.specs.State.{Caller, State, caller_at, idle, last, AreIdle}
 use Rattle.def_core.specs.Replay.{caller_of, replay}
 use Rattle.def_core.specs.Legal.{MayAsk, MayFollow, top, Legal}
-use Rattle.def_core.specs.Laws.{IsUnder, root_of, asked_on, roots, HasNoAbandon, ArePublished}
+use Rattle.def_core.specs.Laws.{IsUnder, HasNoAbandon, ArePublished}
+use Rattle.def_core.proofs.RootKeys.{root_of, asked_on, roots}
 use Rattle.def_core.proofs.Lists.{last_in, last_none, in_snoc}
 use Rattle.def_core.proofs.EventKinds.{same_key, no_ask_publish, no_ask_look, no_ask_abandon}
 use Rattle.def_core.proofs.Histories.{roots_snoc, always}
@@ -111,7 +112,7 @@ module _ {K A : Type 0} (cmp : K → K → Ordering) (total : IsTotalOrder cmp) 
       (u.0, u.1, reaches_join (Depends cmp r) u.0 t k u.2 (inr (leads_step (Depends cmp r) t k d)))
 
   -- what is asked lies under the roots
-  asked_under :
+  pub asked_under :
       (n : ℕ) (h : List (Event K A)) (e : Event K A) (k : K) → Rooted n h → e ≡ Ask (caller_of e) k
       → MayAsk cmp r n h (caller_of e) k (top cmp r n h (caller_of e)) → IsUnder cmp r (roots cmp r n (h ++ e ∷ [])) k
   asked_under n h e k ro ask may = go (top cmp r n h (caller_of e)) refl

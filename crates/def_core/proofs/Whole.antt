@@ -20,7 +20,8 @@ use Rattle.def_core.specs.State.{Caller, State, opening, caller_at, idle, claime
 use Rattle.def_core.specs.Needs.{closing}
 use Rattle.def_core.specs.Replay.{caller_of, outcome, after, replay}
 use Rattle.def_core.specs.Legal.{MayFollow, pair_of, told, top, Legal}
-use Rattle.def_core.specs.Laws.{IsUnder, root_of, roots_from, roots, ArePublished}
+use Rattle.def_core.specs.Laws.{IsUnder, ArePublished}
+use Rattle.def_core.proofs.RootKeys.{root_of, roots_from, roots}
 use Rattle.def_core.proofs.Lists.{append_nil, append_more, length_more, last_in}
 use Rattle.def_core.proofs.Chains.{claimed_holds, one_holder, chain_distinct}
 use Rattle.def_core.proofs.Paths.{path_is, path_claimed}

@@ -1,5 +1,6 @@
 -- What holds of every legal history.
-use Rattle.std.specs.Prelude.{◌≡◌, ◌≢◌, ◌↔◌, ℕ, ◌==◌, ◌+◌, ◌*◌, ◌≤◌, List, [], ◌∷◌, ◌++◌, length, filter, map, None, IsSome}
+use Rattle.std.specs.Prelude.{◌≡◌, ◌≢◌, ◌↔◌, ℕ, ◌==◌, ◌+◌, ◌*◌, ◌≤◌, Bool, true, false, List, [], ◌∷◌, ◌++◌, length, filter, map, None, IsSome}
+use Rattle.std.specs.List.{flat_map}
 use Rattle.std.specs.declared.cmp.Ordering.{Ordering}
 use Rattle.def_query.specs.Answer.{IsCorrect}
 use Rattle.def_query.specs.Cycle.{IsCycleOf}
@@ -8,7 +9,7 @@ use Rattle.def_query.specs.Map.{get}
 use Rattle.def_query.specs.Meaning.{Meaning}
 use Rattle.def_query.specs.Settles.{Depends}
 use Rattle.def_core.specs.declared.event.Event.{Event}
-use Rattle.def_core.specs.declared.event.Event.TheVariants.{Ask, Look, Abandon}
+use Rattle.def_core.specs.declared.event.Event.TheVariants.{Ask, Publish, Look, Abandon}
 use Rattle.def_core.specs.declared.outcome.Outcome.TheVariants.{Circle}
 use Rattle.def_core.specs.State.{State, opening, caller_at, claimed, idle, AreIdle}
 use Rattle.def_core.specs.Needs.{Needs}
@@ -52,22 +53,35 @@ module _ {K A : Type 0} (cmp : K → K → Ordering) (r : Meaning K A) where
   abbrev pub WaitsLeadDown : Type 0
   WaitsLeadDown = (n : ℕ) (h : List (Event K A)) → Legal cmp r n h → LeadsDown n h
 
-  -- the key that an event asks on an empty chain
-  abbrev pub asked_on : List K → K → List K
-  asked_on [] k = k ∷ []
-  asked_on (x ∷ xs) k = []
+  -- who asks for which key
+  abbrev pub asked_by : Event K A → List (ℕ × K)
+  asked_by (Ask c k) = (c, k) ∷ []
+  asked_by _ = []
 
-  abbrev pub root_of : State K A → Event K A → List K
-  root_of s (Ask c k) = asked_on (caller_at s.callers c).chain k
+  -- the callers and keys of all Asks, in order
+  abbrev pub asks : List (Event K A) → List (ℕ × K)
+  asks h = flat_map asked_by h
+
+  -- who asks for which key on an empty chain
+  abbrev pub asked_on : List K → ℕ → K → List (ℕ × K)
+  asked_on [] c k = (c, k) ∷ []
+  asked_on (x ∷ xs) c k = []
+
+  abbrev pub root_of : State K A → Event K A → List (ℕ × K)
+  root_of s (Ask c k) = asked_on (caller_at s.callers c).chain c k
   root_of s _ = []
 
-  abbrev pub roots_from : State K A → List (Event K A) → List K
+  abbrev pub roots_from : State K A → List (Event K A) → List (ℕ × K)
   roots_from s [] = []
   roots_from s (e ∷ h) = root_of s e ++ roots_from (after cmp s e) h
 
-  -- the keys that were asked on an empty chain, one for each such Ask
-  abbrev pub roots : ℕ → List (Event K A) → List K
+  -- the callers and keys of the Asks on an empty chain, in order
+  abbrev pub roots : ℕ → List (Event K A) → List (ℕ × K)
   roots n h = roots_from (opening n) h
+
+  -- the keys of such pairs
+  abbrev pub keys_of : List (ℕ × K) → List K
+  keys_of asked = map (λ (p : ℕ × K). p.1) asked
 
   -- the key lies in the closure of these keys under Depends
   abbrev pub IsUnder : List K → K → Type 0
@@ -88,23 +102,42 @@ module _ {K A : Type 0} (cmp : K → K → Ordering) (r : Meaning K A) where
   abbrev pub ArePublished : State K A → List K → Type 0
   ArePublished s keys = (k : K) → IsIn k keys → IsSome (get cmp s.published k)
 
+  -- the event publishes an answer
+  abbrev pub publishes : Event K A → Bool
+  publishes (Publish c a) = true
+  publishes _ = false
+
   -- no key is published twice, and none that lies outside the closure of the keys asked on an empty chain;
-  -- where no work is left the whole closure is published; without Abandons the history is bounded by the
-  -- closure, and where no work is left each key asked on an empty chain is published
+  -- where no work is left and these are published, the whole closure is; without Abandons the history is
+  -- bounded by the closure, and where no work is left each key asked on an empty chain is published
   pub record IsWorkedOnce (n : ℕ) (h : List (Event K A)) : Type 0 where
     pub once : AreDistinct (map (λ (p : K × A). p.0) (replay cmp n h).published)
-    pub within : (k : K) → IsSome (get cmp (replay cmp n h).published k) → IsUnder (roots n h) k
+    pub counted : length (filter publishes h) ≡ length (replay cmp n h).published
+    pub within : (k : K) → IsSome (get cmp (replay cmp n h).published k) → IsUnder (keys_of (roots n h)) k
     pub whole :
-        AreIdle (replay cmp n h).callers → ArePublished (replay cmp n h) (roots n h)
-        → (k : K) → IsUnder (roots n h) k → IsSome (get cmp (replay cmp n h).published k)
-    pub finite : (keys : List K) × (edges : List (K × K)) × IsClosure (roots n h) keys edges
+        AreIdle (replay cmp n h).callers → ArePublished (replay cmp n h) (keys_of (roots n h))
+        → (k : K) → IsUnder (keys_of (roots n h)) k → IsSome (get cmp (replay cmp n h).published k)
+    pub finite : (keys : List K) × (edges : List (K × K)) × IsClosure (keys_of (roots n h)) keys edges
     pub bounded :
-        HasNoAbandon h → (keys : List K) (edges : List (K × K)) → IsClosure (roots n h) keys edges
+        HasNoAbandon h → (keys : List K) (edges : List (K × K)) → IsClosure (keys_of (roots n h)) keys edges
         → length h ≤ length keys + 2 * (length edges + length (roots n h))
-    pub ended : HasNoAbandon h → AreIdle (replay cmp n h).callers → ArePublished (replay cmp n h) (roots n h)
+    pub ended :
+        HasNoAbandon h → AreIdle (replay cmp n h).callers → ArePublished (replay cmp n h) (keys_of (roots n h))
 
   abbrev pub WorkedOnce : Type 0
   WorkedOnce = (n : ℕ) (h : List (Event K A)) → Legal cmp r n h → IsWorkedOnce n h
+
+  -- each key that a caller asked lies in the closure of the keys asked on an empty chain; where no work is
+  -- left it is published, if those are or nobody abandoned
+  pub record IsAskedUnder (n : ℕ) (h : List (Event K A)) : Type 0 where
+    pub under : (k : K) → IsIn k (keys_of (asks h)) → IsUnder (keys_of (roots n h)) k
+    pub published :
+        AreIdle (replay cmp n h).callers → ArePublished (replay cmp n h) (keys_of (roots n h))
+        → ArePublished (replay cmp n h) (keys_of (asks h))
+    pub ended : HasNoAbandon h → AreIdle (replay cmp n h).callers → ArePublished (replay cmp n h) (keys_of (asks h))
+
+  abbrev pub AskedUnder : Type 0
+  AskedUnder = (n : ℕ) (h : List (Event K A)) → Legal cmp r n h → IsAskedUnder n h
 
   -- the events of one caller
   abbrev pub events_of : ℕ → List (Event K A) → List (Event K A)

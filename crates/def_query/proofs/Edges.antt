@@ -49,6 +49,14 @@ either_uses P rest to (Some (Ok None)) y h g e = g e
 either_uses P rest to (Some (Ok (Some q))) y h g e = absurd (done_needs (Ok (Some q)) y e)
 either_uses P rest to (Some (Err c)) y h g e = absurd (done_needs (Err c) y e)
 
+cycle_uses :
+    (P : Type 0) (rest : Step ℕ Told) (to : ℕ) (o : Option Told) (c : List ℕ)
+    → (o ≡ Some (Err c) → P) → (rest ≡ Done (Err c) → P) → uses rest to o ≡ Done (Err c) → P
+cycle_uses P rest to None c h g e = absurd (done_needs (Err c) to (sym e))
+cycle_uses P rest to (Some (Ok None)) c h g e = g e
+cycle_uses P rest to (Some (Ok (Some q))) c h g e = absurd (let e' : Done (Ok (Some q)) ≡ Done (Err c) = e in cc)
+cycle_uses P rest to (Some (Err d)) c h g e = h (let e' : Done (Err d) ≡ Done (Err c) = e in cc)
+
 module _ (last : Told) (k : ℕ) where
   done_stays :
       (es : List (ℕ × ℕ)) (m n : List (ℕ × Told)) (a : Told)
@@ -101,6 +109,17 @@ module _ (last : Told) (k : ℕ) where
       (λ f. circular_stays es m y c l f)
       e
 
+  circular_used :
+      (es : List (ℕ × ℕ)) (m : List (ℕ × Told)) (c : List ℕ) → (last ≡ Err c → ⊥)
+      → body_over es last k m ≡ Done (Err c) → (y : ℕ) × (get nat_cmp m y ≡ Some (Err c))
+  circular_used [] m c l e = absurd (l (let e' : Done last ≡ Done (Err c) = e in cc))
+  circular_used (d ∷ es) m c l e =
+      if_either ((y : ℕ) × (get nat_cmp m y ≡ Some (Err c))) (d.0 == k) (uses (body_over es last k m) d.1 (get nat_cmp m d.1)) (body_over es last k m) (Done (Err c))
+      (cycle_uses ((y : ℕ) × (get nat_cmp m y ≡ Some (Err c))) (body_over es last k m) d.1 (get nat_cmp m d.1) c
+      (λ h. (d.1, h)) (circular_used es m c l))
+      (circular_used es m c l)
+      e
+
   needs_in :
       (es : List (ℕ × ℕ)) (m : List (ℕ × Told)) (y : ℕ) → body_over es last k m ≡ Needs y → IsIn y (map (λ (e : ℕ × ℕ). e.1) es)
   needs_in [] m y e = absurd (done_needs last y e)
@@ -118,6 +137,7 @@ edges_lawful edges bad = record {
   needs_stay = λ k m n y e w l. needs_stay (last_of bad k) k edges m n y e w l;
   needs_lacking = λ k m y e. needs_lacking (last_of bad k) k edges m y e;
   circular_stays = λ k m y c e. circular_stays (last_of bad k) k edges m y c (needs_lacking (last_of bad k) k edges m y e) e;
+  circular_used = λ k m c e. circular_used (last_of bad k) k edges m c (λ h. let h' : Ok (cond (bad == k) (Some k) None) ≡ Err c = h in cc) e;
   bound_has = λ k. inl refl;
   bound_closed = λ k x y i d. inr (needs_in (last_of bad x) x edges d.earlier y d.needs);
 }

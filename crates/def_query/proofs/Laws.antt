@@ -1,15 +1,15 @@
 -- What follows from the laws of rules.
-use Rattle.std.proofs.Common.{◌≡◌, inl, inr, List, [], ◌∷◌, ◌++◌, Some, None, refl, sym, ◌∙◌, ap}
+use Rattle.std.proofs.Common.{◌≡◌, inl, inr, ℕ, zero, suc, List, [], ◌∷◌, ◌++◌, Some, None, refl, sym, ◌∙◌, ap, subst}
 use Rattle.std.specs.Cmp.{IsTotalOrder}
 use Rattle.std.specs.List.{AllByRecursion}
 use Rattle.std.specs.declared.cmp.Ordering.{Ordering}
 use Rattle.def_query.specs.Map.{get, IsWithin}
 use Rattle.def_query.specs.Meaning.{Meaning}
-use Rattle.def_query.specs.Settles.{IsSettled, Depends, Stuck}
+use Rattle.def_query.specs.Settles.{Settled, Settles, IsSettled, Depends, Stuck}
 use Rattle.def_query.specs.Cycle.{IsCycleOf, MeetsCycle}
-use Rattle.def_query.specs.Answer.{Answers}
+use Rattle.def_query.specs.Answer.{Answers, TellsCycle}
 use Rattle.def_query.specs.Lawful.{IsLawful}
-use Rattle.def_query.specs.Laws.{IsSettling, IsAnswering, IsGrowing, IsRotated}
+use Rattle.def_query.specs.Laws.{IsSettling, IsAnswering, IsTellingCycles, IsGrowing, IsRotated}
 use Rattle.def_query.proofs.Walks.{walk_along}
 use Rattle.def_query.proofs.Maps.{cons_within}
 use Rattle.def_query.proofs.Runs.{run, one_answer as settles_once, one_way as stuck_once, loop_unsettled}
@@ -91,6 +91,20 @@ module _ {K A : Type 0} (cmp : K → K → Ordering) (total : IsTotalOrder cmp) 
     same_cycle = same_cycle cmp total r lawful;
     handed_on = handed_on cmp total r lawful;
   }
+
+  -- no settled answer tells a cycle
+  untold : (n : ℕ) (k : K) (c : List K) → Settled cmp r n k (r.circular c) → ⊥
+  untold zero k c h = h
+  untold (suc n) k c h =
+      let u = lawful.circular_used k h.0 c h.2 in
+      untold n u.0 c (h.1 u.0 (r.circular c) u.1)
+
+  settled_untold : (k : K) (a : A) → Settles cmp r k a → ¬ TellsCycle cmp r a
+  settled_untold k a s t = untold s.round k t.0 (subst (Settled cmp r s.round k) t.1 s.settled)
+
+  pub telling_cycles : IsTellingCycles cmp r
+  telling_cycles k a (inl s) = ((λ t. absurd (settled_untold k a s t)), (λ u. absurd (u (a, s))))
+  telling_cycles k a (inr c) = ((λ t. cycle_unsettled cmp total r lawful k c.cycle c.is_cycle), (λ u. (c.cycle, c.told)))
 
   all_within : (m n : List (K × A)) → AllByRecursion (λ p. get cmp n p.0 ≡ Some p.1) m → IsWithin cmp m n
   all_within [] n h = λ k a g. let g' : None ≡ Some a = g in absurd (cc)

@@ -13,6 +13,10 @@ module _ {K A : Type 0} (cmp : K → K → Ordering) (r : Meaning K A) where
     pub is_cycle : IsCycleOf cmp r k cycle
     pub told : a ≡ r.circular cycle
 
+  -- the answer tells a cycle
+  abbrev pub TellsCycle : A → Type 0
+  TellsCycle a = (c : List K) × (a ≡ r.circular c)
+
   -- the answer of the key: what settles, and else what tells its cycle
   abbrev pub Answers : K → A → Type 0
   Answers k a = Settles cmp r k a ⊎ IsCircular k a

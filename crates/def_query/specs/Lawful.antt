@@ -1,5 +1,5 @@
 -- What is asked of rules.
-use Rattle.std.specs.Prelude.{◌≡◌, List, ◌∷◌, None}
+use Rattle.std.specs.Prelude.{◌≡◌, List, ◌∷◌, None, Some}
 use Rattle.std.specs.declared.cmp.Ordering.{Ordering}
 use Rattle.std.specs.declared.cmp.Ordering.TheVariants.{Equal}
 use Rattle.def_query.specs.Keys.{IsIn}
@@ -25,6 +25,10 @@ module _ {K A : Type 0} (cmp : K → K → Ordering) (r : Meaning K A) where
     pub circular_stays :
         (k : K) (m : List (K × A)) (y : K) (c : List K)
         → r.body k m ≡ Needs y → r.body k ((y, r.circular c) ∷ m) ≡ Done (r.circular c)
+    -- a body is done with a circular answer only where it may use this same answer of some key
+    pub circular_used :
+        (k : K) (m : List (K × A)) (c : List K)
+        → r.body k m ≡ Done (r.circular c) → (y : K) × (get cmp m y ≡ Some (r.circular c))
     -- the bound of a key has this key
     pub bound_has : (k : K) → IsIn k (r.bound k)
     -- and all that one of its keys depends on

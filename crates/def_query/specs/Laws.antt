@@ -1,9 +1,9 @@
 -- What follows from the laws of rules.
-use Rattle.std.specs.Prelude.{◌≡◌, List, [], ◌∷◌, ◌++◌, Some, None}
+use Rattle.std.specs.Prelude.{◌≡◌, ◌↔◌, List, [], ◌∷◌, ◌++◌, Some, None}
 use Rattle.std.specs.List.{AllByRecursion}
 use Rattle.std.specs.declared.cmp.Ordering.{Ordering}
 use Rattle.std.specs.declared.cmp.Ordering.TheVariants.{Less}
-use Rattle.def_query.specs.Answer.{Answers}
+use Rattle.def_query.specs.Answer.{Answers, TellsCycle}
 use Rattle.def_query.specs.Cycle.{MeetsCycle, IsCycleOf}
 use Rattle.def_query.specs.Keys.{AreDistinct, IsWalk}
 use Rattle.def_query.specs.Map.{get}
@@ -42,6 +42,10 @@ module _ {K A : Type 0} (cmp : K → K → Ordering) (r : Meaning K A) where
     pub same_cycle : (k x : K) (c : List K) → Stuck cmp r k x → IsCycleOf cmp r x c → IsCycleOf cmp r k c
     -- a key that depends on one that does not settle has the answer of that one
     pub handed_on : (k x : K) (a : A) → Depends cmp r k x → ¬ IsSettled cmp r x → Answers cmp r x a → Answers cmp r k a
+
+  -- the answer of a key tells a cycle exactly where the key does not settle
+  abbrev pub IsTellingCycles : Type 0
+  IsTellingCycles = (k : K) (a : A) → Answers cmp r k a → TellsCycle cmp r a ↔ (¬ IsSettled cmp r k)
 
   -- n has what the body of k uses of m
   abbrev pub Agrees : K → List (K × A) → List (K × A) → Type 0

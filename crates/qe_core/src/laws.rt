@@ -1,6 +1,6 @@
 //! Laws on many callers: what holds of every legal history of events, for all rules.
 
-ghost use Rattle.def_core.specs.Laws.{PublishedRight, WaitsLeadDown, WorkedOnce, UnmovedByOthers};
+ghost use Rattle.def_core.specs.Laws.{PublishedRight, WaitsLeadDown, WorkedOnce, AskedUnder, UnmovedByOthers};
 
 use qe_rules::Rules;
 
@@ -17,11 +17,18 @@ pub fn waits_lead_down<R: Rules>()
     ensures { (rules : R) → WaitsLeadDown R.Key.cmp (R.meaning rules) }
 {}
 
-/// No key is published twice, and none outside the closure of the keys asked on an empty chain; where no work
-/// is left and these are published, the whole closure is. Without Abandons a history is bounded by the
-/// closure, and where no work is left each key asked on an empty chain is published.
+/// No key is published twice, and none outside the closure of the keys asked on an empty chain; as many keys
+/// are published as there are Publishes; where no work is left and the keys asked on an empty chain are
+/// published, the whole closure is. Without Abandons a history is bounded by the closure, and where no work
+/// is left each key asked on an empty chain is published.
 pub fn worked_once<R: Rules>()
     ensures { (rules : R) → WorkedOnce R.Key.cmp (R.meaning rules) }
+{}
+
+/// Each key that a caller asked lies in the closure of the keys asked on an empty chain. Where no work is left
+/// it is published, if those are or nobody abandoned.
+pub fn asked_under<R: Rules>()
+    ensures { (rules : R) → AskedUnder R.Key.cmp (R.meaning rules) }
 {}
 
 /// What is legal for a caller, and is no Look, stays legal whatever others do meanwhile; and its chain and

@@ -3,5 +3,7 @@ pub use Rattle.def_query.specs.Laws
 pub use Rattle.def_query.specs.Lawful
 pub mod Known
 pub mod Steps
+pub mod Frame
+pub mod Anew
 pub mod Worker
 pub mod Asker

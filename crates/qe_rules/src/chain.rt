@@ -4,6 +4,7 @@ ghost use Rattle.std.specs.Prelude.{◌≡◌, ◌<◌, ◌++◌, ℕ, [], ◌�
 ghost use Rattle.std.specs.Ordering.{is_eq, is_gt};
 ghost use Rattle.def_query.specs.Keys.{IsIn};
 ghost use Rattle.def_query.specs.Map.{get};
+ghost use Rattle.qe_rules.specs.Frame.{HasBegun};
 ghost use Rattle.qe_rules.specs.Worker.{IsTurned, IsTaken};
 
 use crate::cycle::Cycle;
@@ -11,6 +12,52 @@ use crate::known::Known;
 use crate::rules::Rules;
 use sl_base::NoMemory;
 use std::alloc::Global;
+
+// The keys that are worked out, each of which needs the next one, and their frames.
+#[derive(Drop)]
+pub(crate) struct Chain<R: Rules> {
+    pub(crate) keys: Vec<R::Key>,
+    pub(crate) frames: Vec<R::Frame>,
+}
+
+impl<R: Rules> Chain<R> {
+    // A chain of no keys.
+    pub(crate) fn new(alloc: Global) -> Chain<R>
+        ensures keys { result.keys.items ≡ [] }
+        ensures frames { result.frames.items ≡ [] }
+    {
+        Chain {
+            keys: Vec::new(alloc),
+            frames: Vec::new(alloc),
+        }
+    }
+
+    // Begins a key behind the others.
+    pub(crate) fn begin(&mut self, alloc: Global, rules: &R, key: R::Key) -> Result<(), NoMemory>
+        ensures keys { OnOk result (self.new.keys.items ≡ self.old.keys.items ++ key ∷ []) }
+        ensures frames { OnOk result (HasBegun (R.is_of rules.now) R.stands_for
+            self.old.frames.items key self.new.frames.items) }
+    {
+        self.frames.push(rules.begin(alloc, &key)?)?;
+        Ok(self.keys.push(key)?)
+    }
+
+    // Puts the frame of the last key back, and begins the key that it needs.
+    pub(crate) fn go_down(
+        &mut self,
+        alloc: Global,
+        rules: &R,
+        frame: R::Frame,
+        need: R::Key,
+    ) -> Result<(), NoMemory>
+        ensures keys { OnOk result (self.new.keys.items ≡ self.old.keys.items ++ need ∷ []) }
+        ensures frames { OnOk result (HasBegun (R.is_of rules.now) R.stands_for
+            (self.old.frames.items ++ frame ∷ []) need self.new.frames.items) }
+    {
+        self.frames.push(frame)?;
+        self.begin(alloc, rules, need)
+    }
+}
 
 // The place of a key.
 pub(crate) fn place_of<K: Ord>(keys: &[K], key: &K) -> Option<usize>

@@ -1,6 +1,6 @@
 //! Laws: what follows for all rules from what is asked of them.
 
-ghost use Rattle.def_query.specs.Laws.{IsSettling, IsAnswering, IsGrowing};
+ghost use Rattle.def_query.specs.Laws.{IsSettling, IsAnswering, IsTellingCycles, IsGrowing};
 
 use crate::rules::Rules;
 
@@ -14,6 +14,11 @@ pub fn settling<R: Rules>()
 /// same cycle, and a key that depends on such a key has its answer.
 pub fn answering<R: Rules>()
     ensures { (rules : R) → IsAnswering R.Key.cmp (R.meaning rules) }
+{}
+
+/// The answer of a key tells a cycle exactly where the key does not settle.
+pub fn telling_cycles<R: Rules>()
+    ensures { (rules : R) → IsTellingCycles R.Key.cmp (R.meaning rules) }
 {}
 
 /// What a body gives stays under each map that agrees on the answers that it uses and, where it needs a

@@ -1,14 +1,19 @@
 //! Rules over edges between numbers, and what is answered by them.
 
 ghost use Rattle.std.specs.Prelude.{◌≡◌, IfOk};
+ghost use Rattle.std.specs.Ordering.{nat_cmp};
 ghost use Rattle.def_query.specs.Edges.{edge_meaning};
 ghost use Rattle.def_query.proofs.Edges.{edges_lawful};
+ghost use Rattle.qe_rules.specs.Frame.{IsRight};
 
-use crate::{AloneAsker, Asker, Cycle, Known, Rules, Step, Steps, alone};
+use crate::{
+    AloneAsker, Anew, Asker, Bodies, Cycle, Known, Rules, Step, Steps, alone, resume_anew,
+};
 use sl_base::{List, NoMemory};
 use std::alloc::Global;
 use std::marker::Brand;
 use std::process::Abort;
+use std::sync::atomic::{AtomicU64, Ordering};
 use std::sync::ledger::{Blank, Ledger};
 use std::test::Fail;
 
@@ -20,9 +25,11 @@ type Told = Result<Option<u8>, List<u8>>;
 struct Edges {
     edges: Vec<(u8, u8)>,
     bad: u8,
+    begun: AtomicU64,
+    resumed: AtomicU64,
 }
 
-impl Rules for Edges {
+impl Bodies for Edges {
     type Key = u8;
 
     type Answer = Told;
@@ -57,10 +64,6 @@ impl Rules for Edges {
         Ok(Step::Done(Ok(if self.bad == *key { Some(*key) } else { None })))
     }
 
-    fn circular(&self, alloc: Global, cycle: &Cycle<u8>) -> Result<Told, NoMemory> {
-        told(alloc, cycle.as_slice())
-    }
-
     fn copy_key(&self, _alloc: Global, key: &u8) -> Result<u8, NoMemory> {
         Ok(*key)
     }
@@ -75,6 +78,62 @@ impl Rules for Edges {
     ghost lawful = { λ r. edges_lawful r.edges.items r.bad };
 }
 
+impl Rules for Edges {
+    type Key = u8;
+
+    type Answer = Told;
+
+    type Frame = Anew<u8, Told>;
+
+    ghost meaning = { λ r. edge_meaning r.edges.items r.bad };
+
+    ghost stands_for = { λ f. f };
+
+    ghost is_of = { λ r f. IsRight nat_cmp (edge_meaning r.edges.items r.bad) f };
+
+    fn step<L: Ledger>(
+        &self,
+        alloc: Global,
+        key: &u8,
+        known: &Known<u8, Told>,
+        steps: &mut Steps<L>,
+    ) -> Result<Step<u8, Told>, NoMemory> {
+        Bodies::step(self, alloc, key, known, steps)
+    }
+
+    fn begin(&self, alloc: Global, key: &u8) -> Result<Anew<u8, Told>, NoMemory> {
+        self.begun.fetch_add(1, Ordering::SeqCst);
+        Ok(Anew::new(alloc, *key))
+    }
+
+    fn resume<L: Ledger>(
+        &self,
+        alloc: Global,
+        frame: &mut Anew<u8, Told>,
+        known: &Known<u8, Told>,
+        steps: &mut Steps<L>,
+    ) -> Result<Step<u8, Told>, NoMemory> {
+        self.resumed.fetch_add(1, Ordering::SeqCst);
+        resume_anew(alloc, self, frame, known, steps)
+    }
+
+    fn circular(&self, alloc: Global, cycle: &Cycle<u8>) -> Result<Told, NoMemory> {
+        told(alloc, cycle.as_slice())
+    }
+
+    fn copy_key(&self, alloc: Global, key: &u8) -> Result<u8, NoMemory> {
+        Bodies::copy_key(self, alloc, key)
+    }
+
+    fn copy_answer(&self, alloc: Global, answer: &Told) -> Result<Told, NoMemory> {
+        Bodies::copy_answer(self, alloc, answer)
+    }
+
+    ghost lawful = { λ r. edges_lawful r.edges.items r.bad };
+
+    ghost right = { λ r f of. of };
+}
+
 // The answer that tells a cycle.
 fn told(alloc: Global, cycle: &[u8]) -> Result<Told, NoMemory>
     ensures { IfOk result (λ told. told ≡ Err cycle.now) }
@@ -82,32 +141,15 @@ fn told(alloc: Global, cycle: &[u8]) -> Result<Told, NoMemory>
     Ok(Err(List::from_slice(alloc, cycle)?))
 }
 
-// A chain of four, a diamond, a cycle of two with a key that leads to it, a loop, and a fault below two.
+// A chain of four, a cycle of two with a key that leads to it, and a loop.
 fn sample(alloc: Global) -> Result<Edges, NoMemory> {
-    let edges = vec![in alloc;
-        (0, 1),
-        (1, 2),
-        (2, 3),
-        (4, 5),
-        (4, 6),
-        (5, 7),
-        (6, 7),
-        (9, 8),
-        (8, 9),
-        (10, 9),
-        (11, 11),
-        (13, 12),
-        (14, 13),
-        (14, 10),
-    ]?;
-    Ok(Edges { edges, bad: 12 })
-}
-
-#[test]
-fn keys_are_answered_once_with_all_that_they_need(rt: HostRuntime) -> Result<(), Fail> {
-    expect_count::<Brand>(&rt, rt.alloc(), Blank::new(1), 0, None, 4)?;
-    expect_count::<Brand>(&rt, rt.alloc(), Blank::new(1), 4, None, 4)?;
-    expect_count::<Brand>(&rt, rt.alloc(), Blank::new(1), 3, None, 1)
+    let edges = vec![in alloc; (0, 1), (1, 2), (2, 3), (9, 8), (8, 9), (10, 9), (11, 11)]?;
+    Ok(Edges {
+        edges,
+        bad: 12,
+        begun: AtomicU64::new(0),
+        resumed: AtomicU64::new(0),
+    })
 }
 
 #[test]
@@ -121,18 +163,12 @@ fn a_cycle_is_the_same_from_each_key_and_begins_with_the_least(
 }
 
 #[test]
-fn a_fault_is_handed_on_by_what_uses_it_first(rt: HostRuntime) -> Result<(), Fail> {
-    expect_count::<Brand>(&rt, rt.alloc(), Blank::new(1), 12, Some(12), 1)?;
-    expect_count::<Brand>(&rt, rt.alloc(), Blank::new(1), 14, Some(12), 3)
+fn each_body_is_begun_once_and_goes_on_behind_each_need(rt: HostRuntime) -> Result<(), Fail> {
+    expect_calls::<Brand>(&rt, rt.alloc(), Blank::new(1))
 }
 
-#[test]
-fn what_is_known_is_not_worked_out_again(rt: HostRuntime) -> Result<(), Fail> {
-    expect_more::<Brand>(&rt, rt.alloc(), Blank::new(1))
-}
-
-// Answers a key of the chain, and then one that needs it.
-fn expect_more<L: Ledger>(rt: &impl Abort, alloc: Global, blank: Blank) -> Result<(), Fail>
+// Answers the first key of the chain of four, and counts what it took.
+fn expect_calls<L: Ledger>(rt: &impl Abort, alloc: Global, blank: Blank) -> Result<(), Fail>
     requires name { blank.name ≡ L.name }
     requires parts { blank.parts ≡ L.parts }
     requires one { blank.parts ≡ 1 }
@@ -140,10 +176,9 @@ fn expect_more<L: Ledger>(rt: &impl Abort, alloc: Global, blank: Blank) -> Resul
     let rules = sample(alloc)?;
     let mut known = Known::new(alloc);
     let mut steps = Steps::<L>::new(blank);
-    let _two = alone(alloc, &rules, &mut known, &2, &mut steps)?;
-    assert_eq!(rt; known.len(), 2);
     let _zero = alone(alloc, &rules, &mut known, &0, &mut steps)?;
-    assert_eq!(rt; known.len(), 4);
+    assert_eq!(rt; rules.begun.load(Ordering::SeqCst), 4);
+    assert_eq!(rt; rules.resumed.load(Ordering::SeqCst), 7);
     Ok(())
 }
 
@@ -167,27 +202,6 @@ fn ask<L: Ledger>(
     assert_eq!(rt; asker.worked(), worked);
     let _ = again;
     Ok((answer, worked))
-}
-
-fn expect_count<L: Ledger>(
-    rt: &impl Abort,
-    alloc: Global,
-    blank: Blank,
-    key: u8,
-    fault: Option<u8>,
-    count: usize,
-) -> Result<(), Fail>
-    requires name { blank.name ≡ L.name }
-    requires parts { blank.parts ≡ L.parts }
-    requires one { blank.parts ≡ 1 }
-{
-    let (answer, worked) = ask::<L>(rt, alloc, blank, key)?;
-    assert_eq!(rt; worked, count);
-    match answer {
-        Ok(told) => assert_eq!(rt; told, fault),
-        Err(_) => panic!(rt; "a cycle"),
-    }
-    Ok(())
 }
 
 fn expect_cycle<L: Ledger>(

@@ -1,11 +1,13 @@
 //! A worker on one thread.
 
-ghost use Rattle.std.specs.Prelude.{◌≡◌, ◌+◌, ◌<◌, length, IfOk, OnOk, OnErr, None, Some};
+ghost use Rattle.std.specs.Prelude.{◌≡◌, ◌+◌, ◌<◌, length, map, IfOk, OnOk, OnErr, None, Some};
+ghost use Rattle.std.specs.List.{AllByRecursion};
 ghost use Rattle.def_query.specs.Answer.{Answers, IsCorrect};
 ghost use Rattle.def_query.specs.Map.{get, IsWithin};
+ghost use Rattle.qe_rules.specs.Frame.{IsStack};
 ghost use Rattle.qe_rules.specs.Worker.{Advances, GainsWithin, IsChain, IsClosed, IsKnown};
 
-use crate::chain::{place_of, settle, told};
+use crate::chain::{Chain, place_of, settle, told};
 use crate::known::Known;
 use crate::rules::Rules;
 use crate::steps::Steps;
@@ -78,45 +80,54 @@ fn work<R: Rules, L: Ledger>(
     ensures closed { OnOk result (IsClosed R.Key.cmp (R.meaning rules.now) known.old.pairs →
         IsClosed R.Key.cmp (R.meaning rules.now) known.new.pairs) }
 {
-    let mut chain = Vec::new(alloc);
-    chain.push(rules.copy_key(alloc, key)?)?;
-    'chain: while !chain.is_empty() {
+    let mut chain = Chain::new(alloc);
+    chain.begin(alloc, rules, rules.copy_key(alloc, key)?)?;
+    'chain: while !chain.keys.is_empty() {
         advance(alloc, rules, known, &mut chain, steps)?;
     }
     Ok(())
 }
 
-// Works out the last key of the chain, or puts a key that it needs behind it.
+// Goes on with the last key of the chain.
 fn advance<R: Rules, L: Ledger>(
     alloc: Global,
     rules: &R,
     known: &mut Known<R::Key, R::Answer>,
-    chain: &mut Vec<R::Key>,
+    chain: &mut Chain<R>,
     steps: &mut Steps<L>,
 ) -> Result<(), NoMemory>
     requires correct { IsCorrect R.Key.cmp (R.meaning rules.now) known.old.pairs }
-    requires chained { IsChain R.Key.cmp (R.meaning rules.now) known.old.pairs chain.old.items }
-    requires some { 0 < length chain.old.items }
+    requires chained { IsChain R.Key.cmp (R.meaning rules.now) known.old.pairs
+        chain.old.keys.items }
+    requires of { AllByRecursion (R.is_of rules.now) chain.old.frames.items }
+    requires stack { IsStack R.Key.cmp (R.meaning rules.now) known.old.pairs
+        (map R.stands_for chain.old.frames.items) chain.old.keys.items }
+    requires some { 0 < length chain.old.keys.items }
     ensures ok { OnOk result (Advances R.Key.cmp (R.meaning rules.now)
-        known.old.pairs chain.old.items known.new.pairs chain.new.items) }
+        known.old.pairs chain.old.keys.items known.new.pairs chain.new.keys.items
+        × IsStack R.Key.cmp (R.meaning rules.now) known.new.pairs
+        (map R.stands_for chain.new.frames.items) chain.new.keys.items) }
+    ensures of { OnOk result (AllByRecursion (R.is_of rules.now) chain.new.frames.items) }
     ensures err { OnErr result (known.new.pairs ≡ known.old.pairs) }
     ensures steps { steps.new + length known.old.pairs ≡ steps.old + length known.new.pairs }
 {
     known.reserve()?;
-    let top = &chain[chain.len() - 1];
-    match rules.step(alloc, top, known, steps)? {
-        Step::Done(answer) => {
-            settle(known, chain, answer);
-            Ok(())
-        }
-        Step::Needs(need) => match place_of(chain, &need) {
-            None => Ok(chain.push(need)?),
-            Some(at) => {
-                let answer = told(rules, alloc, &chain[at..])?;
-                steps.tick();
-                settle(known, chain, answer);
+    match chain.frames.pop() {
+        None => unreachable!(),
+        Some(mut frame) => match rules.resume(alloc, &mut frame, known, steps)? {
+            Step::Done(answer) => {
+                settle(known, &mut chain.keys, answer);
                 Ok(())
             }
+            Step::Needs(need) => match place_of(&chain.keys, &need) {
+                None => Ok(chain.go_down(alloc, rules, frame, need)?),
+                Some(at) => {
+                    let answer = told(rules, alloc, &chain.keys[at..])?;
+                    steps.tick();
+                    settle(known, &mut chain.keys, answer);
+                    Ok(())
+                }
+            },
         },
     }
 }

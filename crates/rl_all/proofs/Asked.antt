@@ -9,8 +9,13 @@ use Rattle.def_check.specs.Reply.{TellsAnswers}
 use Rattle.def_check.specs.Roots.{behind_syntax}
 use Rattle.sl_key.specs.declared.answer.Answer.{Answer}
 use Rattle.sl_key.specs.declared.key.Key.{Key}
-use Rattle.sl_key.specs.declared.key.Key.TheVariants.{Syntax}
+use Rattle.sl_key.specs.Order.{module_key}
+use Rattle.sl_key.specs.declared.key.Kind.TheVariants.{Syntax as syntax_kind}
 use Rattle.rl_all.specs.Asking.{Asks, Gains, keys_for}
+
+-- the key of a module's syntax
+abbrev pub Syntax : List ℕ → Key
+Syntax name = module_key syntax_kind name
 
 -- ---- one part after another
 
@@ -110,21 +115,21 @@ flat_mapped f g (x ∷ xs) = ap (λ zs. f (g x) ++ zs) (flat_mapped f g xs)
 
 -- ---- the keys of a module
 
-pub module_keys : (sources : Sources) (f : Key → Answer) (name other : List ℕ) (syntax : Answer) (keys : List Key)
-    → other ≡ name → syntax ≡ f (Syntax other) → keys ≡ behind_syntax sources f name syntax
-    → Syntax other ∷ keys ≡ keys_for sources f name
-module_keys sources f name other syntax keys same told behind =
-    ap (λ ks. Syntax other ∷ ks) (behind ∙ ap (behind_syntax sources f name) told)
-    ∙ ap (λ n. Syntax n ∷ behind_syntax sources f name (f (Syntax n))) same
+pub module_keys : (sources : Sources) (f : Key → Answer) (name : List ℕ) (key : Key) (syntax : Answer) (keys : List Key)
+    → key ≡ Syntax name → syntax ≡ f key → keys ≡ behind_syntax sources f name syntax
+    → key ∷ keys ≡ keys_for sources f name
+module_keys sources f name key syntax keys same told behind =
+    ap (λ ks. key ∷ ks) (behind ∙ ap (behind_syntax sources f name) told)
+    ∙ ap (λ k. k ∷ behind_syntax sources f name (f k)) same
 
-pub module_answers : (sources : Sources) (f : Key → Answer) (name other : List ℕ) (syntax : Answer) (keys : List Key) (answers : List Answer)
-    → other ≡ name → syntax ≡ f (Syntax other) → keys ≡ behind_syntax sources f name syntax
+pub module_answers : (sources : Sources) (f : Key → Answer) (name : List ℕ) (key : Key) (syntax : Answer) (keys : List Key) (answers : List Answer)
+    → key ≡ Syntax name → syntax ≡ f key → keys ≡ behind_syntax sources f name syntax
     → answers ≡ syntax ∷ map f keys → answers ≡ map f (keys_for sources f name)
-module_answers sources f name other syntax keys answers same told behind is =
-    is ∙ ap (λ a. a ∷ map f keys) told ∙ ap (map f) (module_keys sources f name other syntax keys same told behind)
+module_answers sources f name key syntax keys answers same told behind is =
+    is ∙ ap (λ a. a ∷ map f keys) told ∙ ap (map f) (module_keys sources f name key syntax keys same told behind)
 
 -- the key of a module's syntax is one of those of the module
-pub syntax_in : (sources : Sources) (f : Key → Answer) (name other : List ℕ) → other ≡ name
-    → (k : Key) → IsIn k (Syntax other ∷ []) → IsIn k (keys_for sources f name)
-syntax_in sources f name other same k (inl e) = inl (e ∙ ap Syntax same)
-syntax_in sources f name other same k (inr i) = absurd i
+pub syntax_in : (sources : Sources) (f : Key → Answer) (name : List ℕ) (key : Key) → key ≡ Syntax name
+    → (k : Key) → IsIn k (key ∷ []) → IsIn k (keys_for sources f name)
+syntax_in sources f name key same k (inl e) = inl (e ∙ same)
+syntax_in sources f name key same k (inr i) = absurd i

@@ -4,6 +4,7 @@ use Rattle.std.proofs.lemmas.Option.{none-some}
 use Rattle.std.specs.List.{AllByRecursion, flat_map}
 use Rattle.std.specs.Prelude.{Some}
 use Rattle.std.specs.declared.cmp.Ordering.TheVariants.{Less}
+use Rattle.sl_key.specs.Flow.{Facts}
 use Rattle.sl_key.specs.Order.{key_cmp}
 use Rattle.sl_key.specs.Ordered.{key_apart, key_total}
 use Rattle.sl_key.specs.declared.answer.Answer.{Answer}
@@ -14,7 +15,6 @@ use Rattle.def_query.specs.Map.{get}
 use Rattle.def_query.proofs.Maps.{Apart, Same, compared, get_cases, get_here, get_there}
 use Rattle.def_sources.specs.Sources.{Sources}
 use Rattle.def_check.specs.Body.{meaning_of}
-use Rattle.def_check.specs.Parts.{Facts}
 use Rattle.def_check.specs.Reply.{HasRisingKeys, IsClosure, IsReached, TellsAnswers}
 use Rattle.def_check.specs.Roots.{roots_of}
 use Rattle.qe_rules.specs.Asker.{HasClosure, LiesWithin}

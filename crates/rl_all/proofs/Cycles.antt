@@ -7,30 +7,29 @@ use Rattle.sl_io.specs.Root.{bytes_of}
 use Rattle.sl_key.specs.Order.{module_of}
 use Rattle.sl_key.specs.declared.answer.Answer.{Answer}
 use Rattle.sl_key.specs.declared.key.Key.{Key}
-use Rattle.sl_key.specs.declared.key.Key.TheVariants.{Syntax}
 use Rattle.sl_key.specs.declared.request.Request.TheVariants.{Make}
 use Rattle.sl_key.specs.declared.request.Term.TheVariants.{Load}
 use Rattle.def_sources.specs.Sources.{Sources}
-use Rattle.def_check.specs.Parts.{diagnostic}
+use Rattle.def_check.specs.Syntax.{diagnostic}
 use Rattle.def_check.specs.Reply.{cycle_told, key_place, key_text, told_by, told_for, told_of}
 use Rattle.def_check.specs.Roots.{asked_of, pointed_to, roots_of}
 use Rattle.rl_all.specs.Asking.{keys_for}
 use Rattle.rl_all.specs.Telling.{place_in}
+use Rattle.rl_all.proofs.Asked.{Syntax}
 
 module _ (sources : Sources) (f : Key → Answer) where
   -- the diagnostic of a cycle, from the parts of which it is made
   pub told_cycle :
-      (cycle : List Key) (least : Key) (name copied : List ℕ) (syntax : Answer) (place : Place) (keys : List (List ℕ)) (diag : Diag)
+      (cycle : List Key) (least key : Key) (syntax : Answer) (place : Place) (keys : List (List ℕ)) (diag : Diag)
       → 0 < length cycle → least ≡ get_or cycle 0 least
-      → copied ≡ module_of least → syntax ≡ f (Syntax copied) → place ≡ place_in syntax least
-      → keys ≡ map key_text cycle → name ≡ module_of least → diag ≡ diagnostic name place 901 keys
+      → key ≡ Syntax (module_of least) → syntax ≡ f key → place ≡ place_in syntax least
+      → keys ≡ map key_text cycle → diag ≡ diagnostic (module_of least) place 901 keys
       → diag ∷ [] ≡ cycle_told sources f cycle
-  told_cycle [] least name copied syntax place keys diag some is copied_is syntax_is place_is keys_is name_is diag_is = absurd (omega arith)
-  told_cycle (first ∷ others) least name copied syntax place keys diag some is copied_is syntax_is place_is keys_is name_is diag_is =
-      let at : place ≡ key_place sources f least = place_is ∙ ap (λ a. place_in a least) (syntax_is ∙ ap (λ n. f (Syntax n)) copied_is) in
+  told_cycle [] least key syntax place keys diag some is key_is syntax_is place_is keys_is diag_is = absurd (omega arith)
+  told_cycle (first ∷ others) least key syntax place keys diag some is key_is syntax_is place_is keys_is diag_is =
+      let at : place ≡ key_place sources f least = place_is ∙ ap (λ a. place_in a least) (syntax_is ∙ ap f key_is) in
       ap (λ d. d ∷ [])
       (diag_is
-      ∙ ap (λ n. diagnostic n place 901 keys) name_is
       ∙ ap (λ p. diagnostic (module_of least) p 901 keys) at
       ∙ ap (λ ks. diagnostic (module_of least) (key_place sources f least) 901 ks) keys_is)
       ∙ ap (λ l. diagnostic (module_of l) (key_place sources f l) 901 (map key_text (first ∷ others)) ∷ []) is

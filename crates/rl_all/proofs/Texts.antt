@@ -1,51 +1,42 @@
 -- Each diagnostic that is told has a text.
-use Rattle.std.proofs.Common.{◌≡◌, ℕ, zero, suc, Bool, true, false, cond, inl, inr, List, [], ◌∷◌, Option, Some, None, map, length, subst, refl, sym, arith, lt-ltb}
+use Rattle.std.proofs.Common.{◌≡◌, ℕ, zero, suc, inl, inr, List, [], ◌∷◌, Option, Some, None, map, length, subst, refl, sym, arith, lt-ltb}
 use Rattle.std.specs.List.{flat_map}
+use Rattle.std.specs.Prelude.{Result, Ok, Err}
 use Rattle.std.proofs.lemmas.List.Elements.{All-from_recursion}
 use Rattle.sl_base.specs.declared.diag.Diag.{Diag}
-use Rattle.sl_key.specs.Names.{declared_at}
+use Rattle.sl_base.specs.declared.diag.Site.{Site}
+use Rattle.sl_key.specs.Fault.{told_at}
+use Rattle.sl_key.specs.Flow.{Facts, Flow, Holds, Needs, Stop, Value as Given, and_then, finished, held_as, hold, or_spoiled, used, used_by}
 use Rattle.sl_key.specs.Order.{key_cmp}
 use Rattle.sl_key.specs.declared.answer.Answer.{Answer}
 use Rattle.sl_key.specs.declared.answer.Answer.TheVariants.{Good, Bad, Spoiled, Circular}
 use Rattle.sl_key.specs.declared.answer.Good.{Good as Held}
-use Rattle.sl_key.specs.declared.answer.Good.TheVariants as held
-use Rattle.sl_key.specs.declared.flow.Flow.{Flow}
-use Rattle.sl_key.specs.declared.flow.Flow.TheVariants.{Needs, Stop, Value as Given}
+use Rattle.sl_key.specs.declared.fault.Fault.{Fault}
+use Rattle.sl_key.specs.declared.fault.Fault.TheVariants.{NotBuilt, NoModule, UnknownName, NoConversion, NotAType, NotAValue, NotTaken}
 use Rattle.sl_key.specs.declared.key.Key.{Key}
-use Rattle.sl_key.specs.declared.key.Key.TheVariants as key
+use Rattle.sl_key.specs.declared.key.Kind.{Kind}
+use Rattle.sl_key.specs.declared.key.Kind.TheVariants.{Syntax, Imports, Alias, Const}
 use Rattle.sl_key.specs.declared.path.DeclPath.{DeclPath}
-use Rattle.sl_key.specs.declared.path.Part.{Part}
 use Rattle.sl_key.specs.declared.request.Reply.{Reply}
 use Rattle.sl_key.specs.declared.request.Reply.TheVariants.{Made, Failed}
 use Rattle.sl_key.specs.declared.request.Request.{Request}
 use Rattle.sl_key.specs.declared.request.Request.TheVariants.{Make}
 use Rattle.sl_key.specs.declared.request.Term.TheVariants.{Load}
-use Rattle.sl_key.specs.declared.value.Arithmetic.{Arithmetic}
-use Rattle.sl_key.specs.declared.value.Value.{Value}
 use Rattle.sl_io.specs.Root.{bytes_of}
-use Rattle.def_token.specs.Lexical.{Token}
-use Rattle.def_tree.specs.ExprTree as expr
-use Rattle.def_tree.specs.ExprTree.{ExprTree, first_token}
-use Rattle.def_tree.specs.TypeTree as written
-use Rattle.def_tree.specs.TypeTree.{TypeTree, NoTypes}
-use Rattle.def_module.specs.Built.{is_small_number}
-use Rattle.def_module.specs.DeclTree as tree
-use Rattle.def_module.specs.DeclTree.{AliasTree, ConstTree, DeclTree}
 use Rattle.def_module.specs.Syntax as module_syntax
 use Rattle.def_syntax.specs.Syntax.{syntax_in}
 use Rattle.def_query.specs.Answer.{Answers}
 use Rattle.def_query.specs.Keys.{IsIn}
+use Rattle.def_query.specs.Map.{get}
 use Rattle.def_query.specs.Settles.{Settled}
 use Rattle.def_query.specs.declared.step.Step.TheVariants as step
 use Rattle.def_query.proofs.Walks.{in_append_cases}
 use Rattle.def_sources.specs.Sources.{Sources}
-use Rattle.def_check.specs.Body.{alias_at, alias_body, alias_of, as_alias, as_const, body_of, const_at, const_body, const_of, imports_body, meaning_of, scope_in}
-use Rattle.def_check.specs.Evaluate.{Scope, combined, converted_to, type_named, type_written, unbuilt, unknown, value_named, value_of, value_written}
-use Rattle.def_check.specs.Parts.{Facts, alias_type, and_then, const_value, finished, module_held, module_text, modules_held, modules_of, or_bad, type_held, used, used_by, value_held}
+use Rattle.def_body.specs.Part.{Break, Give, Part, Reads, Use, answer_of, run, run_body}
+use Rattle.def_check.specs.Body.{alias_part, body, const_part, imports_part, meaning_of}
 use Rattle.def_check.specs.Reply.{IsReplyOf, TellsAnswers, broken, cycle_told, key_text, told_by, told_for, told_of}
 use Rattle.def_check.specs.Roots.{asked_for}
-use Rattle.def_check.specs.Syntax.{read, syntax_of, told}
-use Rattle.def_check.specs.Values.{arithmetic_of, converted, result_of}
+use Rattle.def_check.specs.Syntax.{read, syntax_known, syntax_of, told}
 use Rattle.rl_all.specs.Telling.{CanBeTold, HasText}
 use Rattle.rl_all.proofs.Faults as faults
 use Rattle.rl_all.proofs.Faults.{syntax_text}
@@ -56,166 +47,92 @@ abbrev HasTextIfBad : Answer → Type 0
 HasTextIfBad (Bad told) = HasText told
 HasTextIfBad _ = Unit {0}
 
--- where a part ends with a diagnostic, it has a text
+-- each fault has a text for its arguments
+fault_text : (site : Site) (fault : Fault) → HasText (told_at site fault)
+fault_text site NotBuilt = refl
+fault_text site (NoModule name) = refl
+fault_text site (UnknownName name) = refl
+fault_text site (NoConversion from to) = refl
+fault_text site (NotAType name) = refl
+fault_text site (NotAValue name) = refl
+fault_text site (NotTaken operator type) = refl
+
+-- where a flow ends with a diagnostic, it has a text
 abbrev EndsWell : {A : Type 0} → Flow A → Type 0
 EndsWell (Stop answer) = HasTextIfBad answer
 EndsWell _ = Unit {0}
 
-then : {A B : Type 0} (flow : Flow A) (next : A → Flow B) → EndsWell flow → ((x : A) → EndsWell (next x))
+well_then : {A B : Type 0} (flow : Flow A) (next : A → Flow B) → EndsWell flow → ((x : A) → EndsWell (next x))
     → EndsWell (and_then flow next)
-then (Needs need) next h n = tt
-then (Stop answer) next h n = h
-then (Given value) next h n = n value
+well_then (Needs need) next h n = tt
+well_then (Stop answer) next h n = h
+well_then (Given value) next h n = n value
 
-rule : {A : Type 0} (o : Option A) (told : Diag) → HasText told → EndsWell (or_bad o told)
-rule (Some value) told h = tt
-rule None told h = h
+well_use : (k : Key) (o : Option Answer) → EndsWell (used_by k o)
+well_use k None = tt
+well_use k (Some (Good value)) = tt
+well_use k (Some (Bad told)) = tt
+well_use k (Some (Spoiled culprit)) = tt
+well_use k (Some (Circular cycle)) = tt
 
-choice : {A : Type 0} (yes : Bool) (value : A) (flow : Flow A) → EndsWell flow → EndsWell (cond yes (Given value) flow)
-choice true value flow h = tt
-choice false value flow h = h
+well_or : {A : Type 0} (k : Key) (o : Option A) → EndsWell (or_spoiled k o)
+well_or k (Some value) = tt
+well_or k None = tt
 
-use_by : (k : Key) (o : Option Answer) → EndsWell (used_by k o)
-use_by k None = tt
-use_by k (Some (Good value)) = tt
-use_by k (Some (Bad told)) = tt
-use_by k (Some (Spoiled culprit)) = tt
-use_by k (Some (Circular cycle)) = tt
+well_used : (facts : Facts) (k : Key) → EndsWell (used facts k)
+well_used facts k =
+    well_then (used_by k (get key_cmp facts k)) (λ v. or_spoiled k (held_as k.kind v)) (well_use k (get key_cmp facts k))
+    (λ v. well_or k (held_as k.kind v))
 
-text_well : (k : Key) (h : Held) → EndsWell (module_held k h)
-text_well k (held.Syntax text) = tt
-text_well k _ = tt
-
-modules_well : (k : Key) (h : Held) → EndsWell (modules_held k h)
-modules_well k (held.Imports modules) = tt
-modules_well k _ = tt
-
-type_well : (k : Key) (h : Held) → EndsWell (type_held k h)
-type_well k (held.Alias type) = tt
-type_well k _ = tt
-
-value_well : (k : Key) (h : Held) → EndsWell (value_held k h)
-value_well k (held.Const value) = tt
-value_well k _ = tt
-
-alias_well : (name : List ℕ) (o : Option DeclTree) → EndsWell (as_alias name o)
-alias_well name (Some (tree.Alias alias)) = tt
-alias_well name _ = tt
-
-const_well : (name : List ℕ) (o : Option DeclTree) → EndsWell (as_const name o)
-const_well name (Some (tree.Const constant)) = tt
-const_well name _ = tt
-
-module _ (facts : Facts) where
-  key_well : (k : Key) → EndsWell (used facts k)
-  key_well k = use_by k _
-
-  module_well : (name : List ℕ) → EndsWell (module_text facts name)
-  module_well name = then (used facts (key.Syntax name)) _ (key_well _) (text_well _)
-
-  modules_of_well : (name : List ℕ) → EndsWell (modules_of facts name)
-  modules_of_well name = then (used facts (key.Imports name)) _ (key_well _) (modules_well _)
-
-  alias_type_well : (path : DeclPath) → EndsWell (alias_type facts path)
-  alias_type_well path = then (used facts (key.Alias path)) _ (key_well _) (type_well _)
-
-  const_value_well : (path : DeclPath) → EndsWell (const_value facts path)
-  const_value_well path = then (used facts (key.Const path)) _ (key_well _) (value_well _)
-
-  module _ (scope : Scope) where
-    unbuilt_well : (A : Type 0) (token : Token) → EndsWell (unbuilt facts scope {A = A} token)
-    unbuilt_well A token = refl
-
-    unknown_well : (A : Type 0) (name : Token) → EndsWell (unknown facts scope {A = A} name)
-    unknown_well A name = then (modules_of facts scope.module) _ (modules_of_well _) (λ modules. refl)
-
-    type_named_well : (name : Token) (o : Option Key) → EndsWell (type_named facts scope name o)
-    type_named_well name (Some (key.Alias path)) = alias_type_well path
-    type_named_well name (Some (key.Const path)) = refl
-    type_named_well name _ = unknown_well _ name
-
-    written_well : (type : TypeTree) → EndsWell (type_written facts scope type)
-    written_well (written.Word written.Bool' token []) = tt
-    written_well (written.Word written.Int token []) = tt
-    written_well (written.Word written.Uint token []) = tt
-    written_well (written.Named name NoTypes []) = type_named_well name _
-    written_well _ = refl
-
-    value_named_well : (name : Token) (o : Option Key) → EndsWell (value_named facts scope name o)
-    value_named_well name (Some (key.Const path)) = const_value_well path
-    value_named_well name (Some (key.Alias path)) = then (alias_type facts path) _ (alias_type_well path) (λ type. refl)
-    value_named_well name _ = unknown_well _ name
-
-    number_well : (token : Token) → EndsWell (value_written facts scope token)
-    number_well token = choice (is_small_number token.text) _ (unbuilt facts scope token) refl
-
-    combined_well : (o : Option Arithmetic) (token : Token) (x y : Value) → EndsWell (combined facts scope o token x y)
-    combined_well (Some operator) token x y = rule (result_of operator x y) _ refl
-    combined_well None token x y = refl
-
-    value_of_well : (e : ExprTree) → EndsWell (value_of facts scope e)
-    value_of_well (expr.Number token) = number_well token
-    value_of_well (expr.Truth value token) = tt
-    value_of_well (expr.Name name NoTypes) = value_named_well name _
-    value_of_well (expr.Group opening inner) = value_of_well inner
-    value_of_well (expr.Binary operator token left right) =
-        then (value_of facts scope left) _ (value_of_well left) (λ x.
-        then (value_of facts scope right) _ (value_of_well right) (λ y.
-        combined_well (arithmetic_of operator) token x y))
-    value_of_well _ = refl
-
-    alias_of_well : (alias : AliasTree) → EndsWell (alias_of facts scope alias)
-    alias_of_well alias = then (type_written facts scope alias.type) _ (written_well alias.type) (λ type. tt)
-
-    alias_at_well : (parts : List Part) → EndsWell (alias_at facts scope parts)
-    alias_at_well parts = then (as_alias scope.module (declared_at scope.decls parts)) _ (alias_well _ _) alias_of_well
-
-    const_of_well : (constant : ConstTree) → EndsWell (const_of facts scope constant)
-    const_of_well constant =
-        then (type_written facts scope constant.type) _ (written_well constant.type) (λ type.
-        then (value_of facts scope constant.value) _ (value_of_well constant.value) (λ value.
-        then (converted_to facts scope type (first_token constant.value) value) _ (rule (converted type value) _ refl) (λ final. tt)))
-
-    const_at_well : (parts : List Part) → EndsWell (const_at facts scope parts)
-    const_at_well parts = then (as_const scope.module (declared_at scope.decls parts)) _ (const_well _ _) const_of_well
-
-  imports_well : (name : List ℕ) → EndsWell (imports_body facts name)
-  imports_well name = then (module_text facts name) _ (module_well name) (λ text. tt)
-
-  alias_body_well : (path : DeclPath) → EndsWell (alias_body facts path)
-  alias_body_well path =
-      then (module_text facts path.module) _ (module_well _) (λ text. alias_at_well (scope_in path.module text) path.parts)
-
-  const_body_well : (path : DeclPath) → EndsWell (const_body facts path)
-  const_body_well path =
-      then (module_text facts path.module) _ (module_well _) (λ text. const_at_well (scope_in path.module text) path.parts)
+-- each part ends well
+well_run : {A : Type 0} (facts : Facts) (part : Part A) → EndsWell (run facts part)
+well_run facts (Give value) = tt
+well_run facts (Break site fault) = fault_text site fault
+well_run facts (Use k rest) =
+    well_then (used facts k) (λ held. run facts (rest held)) (well_used facts k) (λ held. well_run facts (rest held))
 
 -- ---- answers
 
-told_well : (name text : List ℕ) (answer : module_syntax.Answer) → faults.HasTextIfBad answer → HasTextIfBad (told name text answer)
+abbrev KnownWell : {A : Type 0} → Result A Diag → Type 0
+KnownWell (Ok value) = Unit {0}
+KnownWell (Err told) = HasText told
+
+told_well : (name text : List ℕ) (answer : module_syntax.Answer) → faults.HasTextIfBad answer → KnownWell (told name text answer)
 told_well name text (module_syntax.Good module_tree) h = tt
 told_well name text (module_syntax.Bad fault) h = h
 
-read_well : (name : List ℕ) (o : Option (List ℕ)) → HasTextIfBad (read name o)
+read_well : (name : List ℕ) (o : Option (List ℕ)) → KnownWell (read name o)
 read_well name (Some text) = told_well name text (syntax_in text) (syntax_text text)
 read_well name None = refl
+
+known_well : (kind : Kind) (known : Result (Holds kind) Diag) → KnownWell known → HasTextIfBad (answer_of kind known)
+known_well kind (Ok value) h = tt
+known_well kind (Err told) h = h
 
 finished_well : (flow : Flow Held) (a : Answer) → EndsWell flow → finished flow ≡ step.Done a → HasTextIfBad a
 finished_well (Needs need) a h e = absurd (cc)
 finished_well (Stop answer) a h e = subst HasTextIfBad (let same : answer ≡ a = cc in same) h
 finished_well (Given value) a h e = subst HasTextIfBad (let same : Good value ≡ a = cc in same) tt
 
+part_well : (kind : Kind) (facts : Facts) (part : Part (Holds kind)) (a : Answer)
+    → run_body kind facts (Reads part) ≡ step.Done a → HasTextIfBad a
+part_well kind facts part a e =
+    finished_well (and_then (run facts part) (λ v. Given (hold kind v))) a
+    (well_then (run facts part) (λ v. Given (hold kind v)) (well_run facts part) (λ v. tt)) e
+
 module _ (sources : Sources) where
-  body_well : (k : Key) (facts : Facts) (a : Answer) → body_of sources k facts ≡ step.Done a → HasTextIfBad a
-  body_well (key.Syntax name) facts a e =
-      subst HasTextIfBad (let same : syntax_of sources name ≡ a = cc in same) (read_well name (bytes_of sources.modules name))
-  body_well (key.Imports name) facts a e = finished_well _ a (imports_well facts name) e
-  body_well (key.Alias path) facts a e = finished_well _ a (alias_body_well facts path) e
-  body_well (key.Const path) facts a e = finished_well _ a (const_body_well facts path) e
+  body_well : (kind : Kind) (path : DeclPath) (facts : Facts) (a : Answer)
+      → run_body kind facts (body sources kind path) ≡ step.Done a → HasTextIfBad a
+  body_well Syntax path facts a e =
+      subst HasTextIfBad (let same : syntax_of sources path.module ≡ a = cc in same)
+      (known_well Syntax (syntax_known sources path.module) (read_well path.module (bytes_of sources.modules path.module)))
+  body_well Imports path facts a e = part_well Imports facts (imports_part path.module) a e
+  body_well Alias path facts a e = part_well Alias facts (alias_part path) a e
+  body_well Const path facts a e = part_well Const facts (const_part path) a e
 
   settled_well : (n : ℕ) (k : Key) (a : Answer) → Settled key_cmp (meaning_of sources) n k a → HasTextIfBad a
   settled_well zero k a s = absurd s
-  settled_well (suc n) k a s = body_well k s.0 a s.2
+  settled_well (suc n) k a s = body_well k.kind k.path s.0 a s.2
 
   answer_well : (k : Key) (a : Answer) → Answers key_cmp (meaning_of sources) k a → HasTextIfBad a
   answer_well k a (inl settles) = settled_well settles.round k a settles.settled

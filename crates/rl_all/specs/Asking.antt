@@ -6,7 +6,8 @@ use Rattle.def_check.specs.Reply.{TellsAnswers}
 use Rattle.def_check.specs.Roots.{behind_syntax}
 use Rattle.sl_key.specs.declared.answer.Answer.{Answer}
 use Rattle.sl_key.specs.declared.key.Key.{Key}
-use Rattle.sl_key.specs.declared.key.Key.TheVariants.{Syntax}
+use Rattle.sl_key.specs.Order.{module_key}
+use Rattle.sl_key.specs.declared.key.Kind.TheVariants.{Syntax}
 
 -- what is said of each function that tells the answer of each key over the sources
 abbrev pub ForAnswers : Sources → ((Key → Answer) → Type 0) → Type 0
@@ -15,7 +16,7 @@ ForAnswers sources says = (answer : Key → Answer) → TellsAnswers sources ans
 -- the keys that are asked for a module which the sources have
 abbrev pub keys_for : Sources → (Key → Answer) → List ℕ → List Key
 keys_for sources answer name =
-    Syntax name ∷ behind_syntax sources answer name (answer (Syntax name))
+    module_key Syntax name ∷ behind_syntax sources answer name (answer (module_key Syntax name))
 
 -- the asker has each of the keys
 abbrev pub HasAll : {S : Type 0} → (S → Key → Type 0) → S → List Key → Type 0

@@ -3,11 +3,10 @@ use Rattle.std.specs.Prelude.{⊤, IsTrue, length}
 use Rattle.std.specs.List.{All}
 use Rattle.std.specs.Option.{option_and_then, option_map_or}
 use Rattle.def_check.specs.Body.{declarations_in}
-use Rattle.def_check.specs.Parts.{place_of}
-use Rattle.def_check.specs.Syntax.{first_place}
 use Rattle.def_slang.specs.Diagnostic.{takes}
 use Rattle.sl_base.specs.declared.diag.Diag.{Diag}
 use Rattle.sl_base.specs.declared.place.Place.{Place}
+use Rattle.sl_key.specs.Fault.{first_place, place_of}
 use Rattle.sl_key.specs.Names.{declared_at, name_of}
 use Rattle.sl_key.specs.Order.{parts_of}
 use Rattle.sl_key.specs.declared.answer.Answer.{Answer}

@@ -5,12 +5,13 @@ ghost use Rattle.def_check.specs.Roots.{behind_syntax};
 ghost use Rattle.def_sources.specs.Sources.{Sources};
 ghost use Rattle.rl_all.specs.Asking.{Asks, ForAnswers, Gains, keys_for};
 ghost use Rattle.sl_key.specs.Names.{decls_in, keys_of};
-ghost use Rattle.sl_key.specs.declared.key.Key.TheVariants.{Imports};
+ghost use Rattle.sl_key.specs.Order.{module_key};
+ghost use Rattle.sl_key.specs.declared.key.Kind.TheVariants.{Imports};
 
 use crate::rules::SlangRules;
 use qe_rules::{Asker, Steps};
 use sl_base::{Name, NoMemory};
-use sl_key::{Answer, Declarations, Good, Key};
+use sl_key::{Answer, Declarations, Good, Key, Kind};
 use std::alloc::Global;
 use std::sync::ledger::Ledger;
 
@@ -47,7 +48,8 @@ pub fn ask_module<A: Asker<SlangRules>, L: Ledger>(
     ensures gains { OnOk result (ForAnswers (A.subject asker.old) (λ answer.
         Gains A.has asker.old asker.new (keys_for (A.subject asker.old) answer name.now))) }
 {
-    let syntax = ask(alloc, asker, &Key::Syntax(name.copy(alloc)?), steps)?;
+    let key = Key::of_module(alloc, Kind::Syntax, name)?;
+    let syntax = ask(alloc, asker, &key, steps)?;
     let keys = keys_behind(alloc, name, &syntax)?;
     let mut answers = Vec::new(alloc);
     answers.push(syntax)?;
@@ -69,10 +71,10 @@ fn keys_behind(alloc: Global, name: &Name, syntax: &Answer) -> Result<Vec<Key>, 
 // The key of a module's imports, and the keys of its declarations in order.
 fn keys_in(alloc: Global, name: &Name, decls: &Declarations) -> Result<Vec<Key>, NoMemory>
     ensures { IfOk result (λ keys.
-        keys.items ≡ Imports name.now ∷ keys_of name.now (decls_in decls.now)) }
+        keys.items ≡ module_key Imports name.now ∷ keys_of name.now (decls_in decls.now)) }
 {
     let mut keys = Vec::new(alloc);
-    keys.push(Key::Imports(name.copy(alloc)?))?;
+    keys.push(Key::of_module(alloc, Kind::Imports, name)?)?;
     decls.add_keys(alloc, name, &mut keys)?;
     Ok(keys)
 }

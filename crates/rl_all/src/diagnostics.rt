@@ -1,10 +1,13 @@
 //! Diagnostics that are made here.
 
-ghost use Rattle.std.specs.Prelude.{◌≡◌, ◌∷◌, [], IfOk};
-ghost use Rattle.def_check.specs.Parts.{diagnostic};
+ghost use Rattle.std.specs.Prelude.{◌≡◌, IfOk};
+ghost use Rattle.def_check.specs.Syntax.{diagnostic};
 ghost use Rattle.sl_base.specs.declared.diag.Site.TheVariants.{Request};
+ghost use Rattle.sl_key.specs.Fault.{told_at};
+ghost use Rattle.sl_key.specs.declared.fault.Fault.TheVariants.{NoModule};
 
 use sl_base::{Bytes, Diag, List, Name, NoMemory, Place, Site};
+use sl_key::Fault;
 use std::alloc::Global;
 
 /// A diagnostic at a place of a module.
@@ -26,21 +29,8 @@ pub fn diagnostic(
 
 /// There is no module of this name.
 pub fn no_module(alloc: Global, name: &Name) -> Result<Diag, NoMemory>
-    ensures { IfOk result (λ told.
-        told ≡ record { site = Request; code = 201; args = name.now ∷ [] }) }
+    ensures { IfOk result (λ told. told ≡ told_at Request (NoModule name.now)) }
 {
-    Ok(Diag {
-        site: Site::Request,
-        code: 201,
-        args: one_name(alloc, name)?,
-    })
-}
-
-/// The arguments of a diagnostic that speaks of a name.
-pub fn one_name(alloc: Global, name: &Name) -> Result<List<Bytes>, NoMemory>
-    ensures { IfOk result (λ args. args ≡ name.now ∷ []) }
-{
-    let mut args = List::new(alloc);
-    args.push(Bytes::from_slice(alloc, name.bytes())?)?;
-    Ok(args)
+    let fault = Fault::NoModule(Bytes::from_slice(alloc, name.bytes())?);
+    fault.told(alloc, Site::Request)
 }

@@ -7,6 +7,8 @@ ghost use Rattle.def_check.specs.Roots.{pointed_to, roots_of};
 ghost use Rattle.rl_all.specs.Asking.{Asks, ForAnswers, Gains, HasAll, Keeps, WorksWithin, keys_for};
 ghost use Rattle.rl_all.specs.Telling.{CanBeTold};
 ghost use Rattle.sl_base.specs.declared.diag.Site.TheVariants.{Request as Whole};
+ghost use Rattle.sl_key.specs.Fault.{told_at};
+ghost use Rattle.sl_key.specs.declared.fault.Fault.TheVariants.{NoModule};
 ghost use Rattle.sl_key.specs.declared.request.Request.TheVariants.{Make};
 ghost use Rattle.sl_key.specs.declared.request.Term.TheVariants.{Load};
 
@@ -119,7 +121,7 @@ fn told_of_module<A: Asker<SlangRules>, L: Ledger>(
 // What is told of an absent module.
 fn told_of_absent(alloc: Global, name: &Name) -> Result<Vec<Told>, NoMemory>
     ensures { IfOk result (λ told. told.items
-        ≡ record { site = Whole; code = 201; args = name.now ∷ [] } ∷ []) }
+        ≡ told_at Whole (NoModule name.now) ∷ []) }
 {
     let mut told = Vec::new(alloc);
     told.push(Told::new(alloc, no_module(alloc, name)?)?)?;

@@ -1,8 +1,10 @@
 //! The rule of the syntax of a module.
 
 ghost use Rattle.std.specs.Prelude.{◌≡◌, ◌+◌, ◌<◌, ◌^◌, IfOk, length};
+ghost use Rattle.def_body.specs.Part.{answer_of};
 ghost use Rattle.def_check.specs.Syntax.{syntax_of, told};
 ghost use Rattle.def_syntax.specs.Syntax.{syntax_in};
+ghost use Rattle.sl_key.specs.declared.key.Kind.TheVariants.{Syntax};
 
 use crate::diagnostics::{diagnostic, no_module};
 use crate::rules::SlangRules;
@@ -27,7 +29,7 @@ impl SlangRules {
 // What is told of a module's text, and its declarations where nothing is.
 fn told(alloc: Global, name: &Name, text: &[u8]) -> Result<Answer, NoMemory>
     requires { length text.now + 1 < 2 ^ 32 }
-    ensures { IfOk result (λ answer. answer ≡ told name.now text.now (syntax_in text.now)) }
+    ensures { IfOk result (λ answer. answer ≡ answer_of Syntax (told name.now text.now (syntax_in text.now))) }
 {
     match syntax(alloc, text) {
         Ok(tree) => {

@@ -14,7 +14,7 @@ use crate::rules::SlangRules;
 use crate::told::Told;
 use qe_rules::{Asker, Steps};
 use sl_base::{Bytes, Diag, List, NoMemory, Place};
-use sl_key::{Answer, Good, Key, copy_diag, name_of};
+use sl_key::{Answer, Good, Key, Kind, copy_diag, name_of};
 use std::alloc::Global;
 use std::sync::ledger::Ledger;
 
@@ -123,10 +123,10 @@ fn tell_cycle<A: Asker<SlangRules>, L: Ledger>(
     let [least, ..] = cycle else {
         return Ok(());
     };
-    let syntax = Key::Syntax(least.module().copy(alloc)?);
+    let syntax = Key::of_module(alloc, Kind::Syntax, &least.path.module)?;
     let place = place_in(&ask(alloc, asker, &syntax, steps)?, least);
     let keys = texts_of(alloc, cycle)?;
-    let diag = diagnostic(alloc, least.module(), place, CIRCULAR, keys)?;
+    let diag = diagnostic(alloc, &least.path.module, place, CIRCULAR, keys)?;
     push(alloc, told, diag)
 }
 
@@ -137,7 +137,7 @@ fn place_in(syntax: &Answer, key: &Key) -> Place
     let Answer::Good(Good::Syntax(decls)) = syntax else {
         return FIRST;
     };
-    let Some(decl) = decls.get().find_at(key.parts()) else {
+    let Some(decl) = decls.get().find_at(key.path.parts.as_slice()) else {
         return FIRST;
     };
     match name_of(decl) {
@@ -152,19 +152,7 @@ fn texts_of(alloc: Global, keys: &[Key]) -> Result<List<Bytes>, NoMemory>
 {
     let mut texts = List::new(alloc);
     for key in keys {
-        texts.push(key_text(alloc, key)?)?;
+        texts.push(key.path.text(alloc)?)?;
     }
     Ok(texts)
-}
-
-// How a key is told: its module, and the names of its path.
-fn key_text(alloc: Global, key: &Key) -> Result<Bytes, NoMemory>
-    ensures { IfOk result (λ text. text ≡ key_text key.now) }
-{
-    let mut text = Bytes::from_slice(alloc, key.module().bytes())?;
-    for part in key.parts() {
-        text.push(b'.')?;
-        text.extend_from_slice(part.name.bytes())?;
-    }
-    Ok(text)
 }

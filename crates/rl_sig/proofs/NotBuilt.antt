@@ -5,7 +5,6 @@ use Rattle.def_token.specs.Lexical as lexical
 use Rattle.def_tree.specs.ExprTree as exprs
 use Rattle.def_tree.specs.TypeTree as types
 use Rattle.def_check.specs.Evaluate.{Scope, type_written, unbuilt, value_of}
-use Rattle.def_check.specs.Parts.{Facts}
 use Rattle.sl_token.specs.View.{token_in}
 use Rattle.sl_token.specs.declared.token.Token.{Token}
 use Rattle.sl_tree.specs.View.{type_in, types_of}
@@ -15,11 +14,11 @@ use Rattle.sl_tree.specs.declared.types.TypeTree.{TypeTree}
 pub not_both : (b : Bool) → b ≡ true → b ≡ false → ⊥
 not_both b holds fails = cc
 
-module _ (facts : Facts) (scope : Scope) (source : List ℕ) where
+module _ (scope : Scope) (source : List ℕ) where
   -- a word with names behind its dots is not built
   pub long_word : (word : types.TypeWord) (first : lexical.Token) (path : List Token) (b : Bool)
       → IsTrue b ↔ (path ≡ []) → b ≡ false
-      → type_written facts scope (types.Word word first (map (token_in source) path)) ≡ unbuilt facts scope first
+      → type_written scope (types.Word word first (map (token_in source) path)) ≡ unbuilt scope first
   long_word word first [] b h is = absurd (not_both b (h.1 refl) is)
   long_word types.Int first (name ∷ path) b h is = refl
   long_word types.Uint first (name ∷ path) b h is = refl
@@ -31,8 +30,8 @@ module _ (facts : Facts) (scope : Scope) (source : List ℕ) where
   -- a type's name that does not stand alone is not built
   pub long_name : (first : lexical.Token) (args : List TypeTree) (path : List Token)
       → (args ≡ [] → path ≡ [] → ⊥)
-      → type_written facts scope (types.Named first (types_of (map (type_in source) args)) (map (token_in source) path))
-      ≡ unbuilt facts scope first
+      → type_written scope (types.Named first (types_of (map (type_in source) args)) (map (token_in source) path))
+      ≡ unbuilt scope first
   long_name first [] [] long = absurd (long refl refl)
   long_name first [] (name ∷ path) long = refl
   long_name first (arg ∷ args) path long = refl
@@ -40,7 +39,7 @@ module _ (facts : Facts) (scope : Scope) (source : List ℕ) where
   -- a value's name with type arguments is not built
   pub long_value : (name : lexical.Token) (args : List TypeTree) (b : Bool)
       → IsTrue b ↔ (args ≡ []) → b ≡ false
-      → value_of facts scope (exprs.Name name (types_of (map (type_in source) args))) ≡ unbuilt facts scope name
+      → value_of scope (exprs.Name name (types_of (map (type_in source) args))) ≡ unbuilt scope name
   long_value name [] b h is = absurd (not_both b (h.1 refl) is)
   long_value name (arg ∷ args) b h is = refl
 

@@ -1,3 +1,2 @@
 -- What functions inside promise each other.
-pub mod Early
 pub mod Reading

@@ -1,8 +1,8 @@
 -- What a reader reads.
 use Rattle.std.specs.Prelude.{ℕ, List}
+use Rattle.sl_key.specs.Flow.{Facts}
 use Rattle.sl_key.specs.Names.{decls_in}
 use Rattle.def_check.specs.Evaluate.{Scope}
-use Rattle.def_check.specs.Parts.{Facts}
 use Rattle.rl_sig.specs.declared.scope.Reader.{Reader}
 
 -- the answers that it may use

@@ -4,14 +4,14 @@ ghost use Rattle.std.specs.Prelude.{◌≡◌, ℕ, List};
 ghost use Rattle.def_tree.specs.ExprTree as trees;
 ghost use Rattle.def_check.specs.Evaluate.{combined, converted_to, value_of, value_written};
 ghost use Rattle.def_check.specs.Values.{arithmetic_of};
-ghost use Rattle.rl_sig.specs.Early.{Tells};
+ghost use Rattle.def_body.specs.Part.{run};
+ghost use Rattle.sl_key.specs.Flow.{Tells};
 ghost use Rattle.sl_token.specs.View.{token_in};
 ghost use Rattle.sl_tree.specs.View.{expr_in, operator_of};
 
-use crate::early::Early;
 use crate::scope::Reader;
-use crate::values::{arithmetic_of, converted, mark_of, misfit_of, result_of, text_of, type_of};
-use sl_key::{Answer, Ty, Value};
+use crate::values::{arithmetic_of, converted, misfit_of, result_of, type_of};
+use sl_key::{Fault, Flow, Ty, Value};
 use sl_scopes::small_number;
 use sl_token::Token;
 use sl_tree::{ExprTree, Operator};
@@ -20,10 +20,10 @@ impl Reader<'_> {
     ghost use Rattle.rl_sig.specs.Reading.{facts_of, scope_of, text_of};
 
     /// The value of an expression.
-    #[tactic(auto, using(crate::proofs::Forms::expr_forms))]
-    pub fn value_of(&self, expr: &ExprTree) -> Result<Value, Early>
+    #[tactic(auto, using(crate::proofs::Forms::expr_forms, crate::proofs::Forms::part_forms))]
+    pub fn value_of(&self, expr: &ExprTree) -> Flow<Value>
         ensures { let expr = expr_in (text_of self.now) expr.now in
-            Tells result (value_of (facts_of self.now) (scope_of self.now) expr) }
+            Tells result (run (facts_of self.now) (value_of (scope_of self.now) expr)) }
     {
         match expr {
             ExprTree::Number(token) => self.value_written(*token),
@@ -54,24 +54,23 @@ impl Reader<'_> {
     }
 
     /// A value as one of a type, where this expression has it.
-    pub fn converted_to(&self, ty: Ty, expr: &ExprTree, value: Value) -> Result<Value, Early>
+    pub fn converted_to(&self, ty: Ty, expr: &ExprTree, value: Value) -> Flow<Value>
         ensures { let first = trees.first_token (expr_in (text_of self.now) expr.now) in
-            Tells result (converted_to (facts_of self.now) (scope_of self.now) ty first value) }
+            Tells result (run (facts_of self.now) (converted_to (scope_of self.now) ty first value)) }
     {
         match converted(ty, value) {
             Some(value) => Ok(value),
             None => {
-                let first = first_token(expr);
-                let told = self.told_texts(first, 302, text_of(type_of(value)), text_of(ty))?;
-                Err(Early::Stop(Answer::Bad(told)))
+                let fault = Fault::NoConversion(type_of(value), ty);
+                Err(self.broken(first_token(expr), fault)?)
             }
         }
     }
 
     // The value of a number.
-    fn value_written(&self, token: Token) -> Result<Value, Early>
+    fn value_written(&self, token: Token) -> Flow<Value>
         ensures { let token = token_in (text_of self.now) token in
-            Tells result (value_written (facts_of self.now) (scope_of self.now) token) }
+            Tells result (run (facts_of self.now) (value_written (scope_of self.now) token)) }
     {
         match small_number(self.decls.text(token)) {
             Some(number) => Ok(Value::Int(number.cast_signed())),
@@ -80,15 +79,9 @@ impl Reader<'_> {
     }
 
     // The value of an operator on two values.
-    fn combined(
-        &self,
-        operator: Operator,
-        token: Token,
-        left: Value,
-        right: Value,
-    ) -> Result<Value, Early>
-        ensures { Tells result (combined (facts_of self.now) (scope_of self.now) (arithmetic_of (operator_of operator))
-            (token_in (text_of self.now) token) left right) }
+    fn combined(&self, operator: Operator, token: Token, left: Value, right: Value) -> Flow<Value>
+        ensures { Tells result (run (facts_of self.now) (combined (scope_of self.now) (arithmetic_of (operator_of operator))
+            (token_in (text_of self.now) token) left right)) }
     {
         let Some(operator) = arithmetic_of(operator) else {
             return self.unbuilt(token);
@@ -96,9 +89,8 @@ impl Reader<'_> {
         match result_of(operator, left, right) {
             Some(value) => Ok(value),
             None => {
-                let misfit = text_of(misfit_of(left, right));
-                let told = self.told_texts(token, 311, mark_of(operator), misfit)?;
-                Err(Early::Stop(Answer::Bad(told)))
+                let fault = Fault::NotTaken(operator, misfit_of(left, right));
+                Err(self.broken(token, fault)?)
             }
         }
     }

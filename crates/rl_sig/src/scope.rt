@@ -1,18 +1,22 @@
 //! Names, and what they name.
 
-ghost use Rattle.std.specs.Prelude.{◌≡◌, ◌∷◌, [], IfOk};
+ghost use Rattle.std.specs.Prelude.{◌≡◌, IfOk};
+ghost use Rattle.def_body.specs.Part.{run};
 ghost use Rattle.def_check.specs.Evaluate.{type_named, type_written, unbuilt, unknown, value_named};
-ghost use Rattle.def_check.specs.Parts.{at_token};
-ghost use Rattle.rl_sig.specs.Early.{Tells};
+ghost use Rattle.sl_key.specs.Fault.{site_of, told_at};
+ghost use Rattle.sl_key.specs.Flow.{Tells};
 ghost use Rattle.sl_key.specs.Names.{key_named};
+ghost use Rattle.sl_key.specs.declared.answer.Answer.TheVariants.{Bad};
+ghost use Rattle.sl_key.specs.declared.flow.Early.TheVariants.{Stop};
 ghost use Rattle.def_tree.specs.TypeTree as trees;
 ghost use Rattle.sl_token.specs.View.{slice_of, token_in, tokens_in};
 ghost use Rattle.sl_tree.specs.View.{type_in, word_of};
 
-use crate::early::Early;
-use crate::facts::{alias_type, const_value, modules_of};
-use sl_base::{Bytes, Diag, List, Name, NoMemory, Site};
-use sl_key::{Answer, Declarations, Facts, Key, Ty, Value};
+use sl_base::{Bytes, List, Name, NoMemory, Site};
+use sl_key::{
+    Answer, Declarations, Early, Facts, Fault, Flow, Key, Kind, Ty, Value, alias_type, const_value,
+    modules_of,
+};
 use sl_token::Token;
 use sl_tree::{TypeTree, TypeWord};
 use std::alloc::Global;
@@ -32,36 +36,30 @@ pub struct Reader<'a> {
 impl Reader<'_> {
     ghost use Rattle.rl_sig.specs.Reading.{facts_of, scope_of, text_of};
 
-    /// A diagnostic that speaks of two texts, at a token of the module.
-    pub fn told_texts(
-        &self,
-        token: Token,
-        code: u16,
-        first: &str,
-        second: &str,
-    ) -> Result<Diag, NoMemory>
-        ensures { IfOk result (λ told. told
-            ≡ at_token self.now.module.now (token_in (text_of self.now) token) code (first.now ∷ second.now ∷ [])) }
+    /// A rule is broken at a token of the module.
+    pub fn broken(&self, token: Token, fault: Fault) -> Result<Early, NoMemory>
+        ensures { IfOk result (λ early. early
+            ≡ Stop (Bad (told_at (site_of self.now.module.now (token_in (text_of self.now) token)) fault))) }
     {
-        let mut args = List::new(self.alloc);
-        args.push(Bytes::from_slice(self.alloc, first.as_bytes())?)?;
-        args.push(Bytes::from_slice(self.alloc, second.as_bytes())?)?;
-        self.told(token, code, args)
+        let site = Site::Source {
+            module: self.module.copy(self.alloc)?,
+            place: token.place,
+        };
+        Ok(Early::Stop(Answer::Bad(fault.told(self.alloc, site)?)))
     }
 
     /// A form that begins with this token is not built yet.
-    pub fn unbuilt<T: Drop>(&self, token: Token) -> Result<T, Early>
-        ensures { Tells result (unbuilt (facts_of self.now) (scope_of self.now) (token_in (text_of self.now) token)) }
+    pub fn unbuilt<T: Drop>(&self, token: Token) -> Flow<T>
+        ensures { Tells result (run (facts_of self.now) (unbuilt (scope_of self.now) (token_in (text_of self.now) token))) }
     {
-        let told = self.told(token, 100, List::new(self.alloc))?;
-        Err(Early::Stop(Answer::Bad(told)))
+        Err(self.broken(token, Fault::NotBuilt)?)
     }
 
     /// The type that is written.
     #[tactic(auto, using(crate::proofs::Forms::type_forms))]
-    pub fn type_written(&self, written: &TypeTree) -> Result<Ty, Early>
+    pub fn type_written(&self, written: &TypeTree) -> Flow<Ty>
         ensures { Tells result
-            (type_written (facts_of self.now) (scope_of self.now) (type_in (text_of self.now) written.now)) }
+            (run (facts_of self.now) (type_written (scope_of self.now) (type_in (text_of self.now) written.now))) }
     {
         match written {
             TypeTree::Word { word, first, path } => self.word(*word, *first, path),
@@ -73,25 +71,28 @@ impl Reader<'_> {
     }
 
     /// The value that a name stands for.
-    pub fn value_named(&self, name: Token) -> Result<Value, Early>
+    pub fn value_named(&self, name: Token) -> Flow<Value>
         ensures { let scope = scope_of self.now in let name = token_in (text_of self.now) name in
-            Tells result (value_named (facts_of self.now) scope name (key_named scope.module scope.decls name.text)) }
+            Tells result (run (facts_of self.now) (value_named scope name (key_named scope.module scope.decls name.text))) }
     {
-        match self.key_named(name)? {
-            Some(Key::Const(path)) => const_value(self.alloc, self.facts, path),
-            Some(Key::Alias(path)) => {
-                let _ty = alias_type(self.alloc, self.facts, path)?;
-                Err(Early::Stop(Answer::Bad(self.told_name(name, 304)?)))
+        let Some(key) = self.key_named(name)? else {
+            return self.unknown(name);
+        };
+        match key.kind {
+            Kind::Const => const_value(self.alloc, self.facts, key.path),
+            Kind::Alias => {
+                let _ty = alias_type(self.alloc, self.facts, key.path)?;
+                Err(self.broken(name, Fault::NotAValue(self.bytes(name)?))?)
             }
-            _ => self.unknown(name),
+            Kind::Syntax | Kind::Imports => self.unknown(name),
         }
     }
 
     // The type that a word is, with the names behind its dots.
-    fn word(&self, word: TypeWord, first: Token, path: &List<Token>) -> Result<Ty, Early>
+    fn word(&self, word: TypeWord, first: Token, path: &List<Token>) -> Flow<Ty>
         ensures { let text = text_of self.now in Tells result
-            (type_written (facts_of self.now) (scope_of self.now)
-            (trees.Word (word_of word) (token_in text first) (tokens_in text path.now))) }
+            (run (facts_of self.now) (type_written (scope_of self.now)
+            (trees.Word (word_of word) (token_in text first) (tokens_in text path.now)))) }
     {
         if !path.is_empty() {
             return self.unbuilt(first);
@@ -105,14 +106,17 @@ impl Reader<'_> {
     }
 
     // The type that a name stands for.
-    fn type_named(&self, name: Token) -> Result<Ty, Early>
+    fn type_named(&self, name: Token) -> Flow<Ty>
         ensures { let scope = scope_of self.now in let name = token_in (text_of self.now) name in
-            Tells result (type_named (facts_of self.now) scope name (key_named scope.module scope.decls name.text)) }
+            Tells result (run (facts_of self.now) (type_named scope name (key_named scope.module scope.decls name.text))) }
     {
-        match self.key_named(name)? {
-            Some(Key::Alias(path)) => alias_type(self.alloc, self.facts, path),
-            Some(Key::Const(_)) => Err(Early::Stop(Answer::Bad(self.told_name(name, 303)?))),
-            _ => self.unknown(name),
+        let Some(key) = self.key_named(name)? else {
+            return self.unknown(name);
+        };
+        match key.kind {
+            Kind::Alias => alias_type(self.alloc, self.facts, key.path),
+            Kind::Const => Err(self.broken(name, Fault::NotAType(self.bytes(name)?))?),
+            Kind::Syntax | Kind::Imports => self.unknown(name),
         }
     }
 
@@ -126,33 +130,17 @@ impl Reader<'_> {
     }
 
     // The module does not declare the name.
-    fn unknown<T: Drop>(&self, name: Token) -> Result<T, Early>
-        ensures { Tells result (unknown (facts_of self.now) (scope_of self.now) (token_in (text_of self.now) name)) }
+    fn unknown<T: Drop>(&self, name: Token) -> Flow<T>
+        ensures { Tells result (run (facts_of self.now) (unknown (scope_of self.now) (token_in (text_of self.now) name))) }
     {
         let _modules = modules_of(self.alloc, self.facts, self.module)?;
-        Err(Early::Stop(Answer::Bad(self.told_name(name, 301)?)))
+        Err(self.broken(name, Fault::UnknownName(self.bytes(name)?))?)
     }
 
-    // A diagnostic that speaks of a name, at the name.
-    fn told_name(&self, name: Token, code: u16) -> Result<Diag, NoMemory>
-        ensures { IfOk result (λ told. let name = token_in (text_of self.now) name in
-            told ≡ at_token self.now.module.now name code (name.text ∷ [])) }
+    // The bytes of a name, on their own.
+    fn bytes(&self, name: Token) -> Result<Bytes, NoMemory>
+        ensures { IfOk result (λ bytes. bytes ≡ slice_of (text_of self.now) name.span) }
     {
-        let mut args = List::new(self.alloc);
-        args.push(Bytes::from_slice(self.alloc, self.decls.text(name))?)?;
-        self.told(name, code, args)
-    }
-
-    // A diagnostic at a token of the module.
-    fn told(&self, token: Token, code: u16, args: List<Bytes>) -> Result<Diag, NoMemory>
-        ensures { IfOk result (λ told. told
-            ≡ at_token self.now.module.now (token_in (text_of self.now) token) code args) }
-    {
-        let module = self.module.copy(self.alloc)?;
-        let site = Site::Source {
-            module,
-            place: token.place,
-        };
-        Ok(Diag { site, code, args })
+        Ok(Bytes::from_slice(self.alloc, self.decls.text(name))?)
     }
 }

@@ -1,23 +1,12 @@
 //! Types, values, and how values are converted and combined.
 
 ghost use Rattle.std.specs.Prelude.{◌≡◌};
-ghost use Rattle.def_check.specs.Values.{arithmetic_of, converted, int_result, mark_of, misfit_of, result_of};
-ghost use Rattle.def_check.specs.Values.{text_of, type_of, uint_result, width};
+ghost use Rattle.def_check.specs.Values.{arithmetic_of, converted, int_result, misfit_of, result_of};
+ghost use Rattle.def_check.specs.Values.{type_of, uint_result, width};
 ghost use Rattle.sl_tree.specs.View.{operator_of};
 
 use sl_key::{Arithmetic, Ty, Value};
 use sl_tree::Operator;
-
-/// How a type is told.
-pub fn text_of(ty: Ty) -> &'static str
-    ensures { result.now ≡ text_of ty }
-{
-    match ty {
-        Ty::Bool => "bool",
-        Ty::Int => "int",
-        Ty::Uint => "uint",
-    }
-}
 
 /// The operator on integers that is written, if it is built.
 pub fn arithmetic_of(operator: Operator) -> Option<Arithmetic>
@@ -28,17 +17,6 @@ pub fn arithmetic_of(operator: Operator) -> Option<Arithmetic>
         Operator::Subtract => Some(Arithmetic::Subtract),
         Operator::Multiply => Some(Arithmetic::Multiply),
         _ => None,
-    }
-}
-
-/// The mark of an operator.
-pub fn mark_of(operator: Arithmetic) -> &'static str
-    ensures { result.now ≡ mark_of operator }
-{
-    match operator {
-        Arithmetic::Add => "+",
-        Arithmetic::Subtract => "-",
-        Arithmetic::Multiply => "*",
     }
 }
 

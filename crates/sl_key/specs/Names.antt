@@ -1,5 +1,6 @@
 -- Declarations of a module by their names, and their keys.
-use Rattle.std.specs.Prelude.{ℕ, ◌==◌, Bool, false, List, [], ◌∷◌, find, filter_map, Option, Some, None, slice_get, if◌then◌else◌}
+use Rattle.std.specs.Prelude.{ℕ, ◌==◌, Bool, false, List, [], ◌∷◌, ◌++◌, find, filter_map, Option, Some, None, slice_get, if◌then◌else◌}
+use Rattle.std.specs.List.{flat_map}
 use Rattle.std.specs.Option.{option_and_then, option_map, option_map_or}
 use Rattle.std.specs.Str.{bytes_eq}
 use Rattle.def_token.specs.Lexical.{Token}
@@ -7,7 +8,8 @@ use Rattle.def_module.specs.DeclTree.{DeclTree, Alias, Const, ModuleTree}
 use Rattle.def_module.specs.Scopes.{Declared, decl_names}
 use Rattle.def_syntax.specs.Syntax.{tree_in}
 use Rattle.sl_key.specs.declared.key.Key.{Key}
-use Rattle.sl_key.specs.declared.key.Key.TheVariants as key
+use Rattle.sl_key.specs.declared.key.Kind.TheVariants as kind
+use Rattle.sl_key.specs.Order.{path_key}
 use Rattle.sl_key.specs.declared.path.DeclPath.{DeclPath}
 use Rattle.sl_key.specs.declared.path.Part.{Part}
 
@@ -34,10 +36,14 @@ path_in «module» name =
     let part : Part = record { name = name; nth = 0 } in
     record { «module» = «module»; parts = part ∷ [] }
 
+-- a path is told as its module and its names
+abbrev pub path_text : DeclPath → List ℕ
+path_text path = path.module ++ flat_map (λ (part : Part). 46 ∷ part.name) path.parts
+
 -- the key of a declaration, if it has one
 abbrev pub key_of : List ℕ → DeclTree → Option Key
-key_of «module» (Alias alias) = Some (key.Alias (path_in «module» alias.name.text))
-key_of «module» (Const constant) = Some (key.Const (path_in «module» constant.name.text))
+key_of «module» (Alias alias) = Some (path_key kind.Alias (path_in «module» alias.name.text))
+key_of «module» (Const constant) = Some (path_key kind.Const (path_in «module» constant.name.text))
 key_of «module» _ = None
 
 -- the keys of declarations, in order

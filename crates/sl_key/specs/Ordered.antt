@@ -1,5 +1,5 @@
 -- The order of keys is total, and tells keys apart.
-use Rattle.std.specs.Prelude.{◌≡◌, refl}
+use Rattle.std.specs.Prelude.{◌≡◌, refl, List}
 use Rattle.std.proofs.Common.{ap, arith, ◌∙◌}
 use Rattle.std.specs.Cmp.{IsTotalOrder, IsEquivalence, IsPartialOrder, eq_by_cmp_equiv, then_total, on_total, nat_cmp_total, po}
 use Rattle.std.specs.Cmp.Lexicographic.{lists_total, on_texts}
@@ -8,10 +8,13 @@ use Rattle.std.specs.Ordering.{as_partial_cmp, eq_by_cmp, ordering_then}
 use Rattle.std.specs.declared.cmp.Ordering.{Ordering}
 use Rattle.std.specs.declared.cmp.Ordering.TheVariants.{Less, Equal, Greater}
 use Rattle.sl_key.specs.declared.key.Key.{Key}
-use Rattle.sl_key.specs.declared.key.Key.TheVariants.{Syntax, Imports, Alias, Const}
+use Rattle.sl_key.specs.declared.key.Kind.{Kind}
+use Rattle.sl_key.specs.declared.key.Kind.TheVariants.{Syntax, Imports, Alias, Const}
 use Rattle.sl_key.specs.declared.path.DeclPath.{DeclPath}
 use Rattle.sl_key.specs.declared.path.Part.{Part}
-use Rattle.sl_key.specs.Order.{key_cmp, kind_of, module_of, part_cmp, parts_of}
+use Rattle.sl_key.specs.declared.value.Ty.{Ty}
+use Rattle.sl_key.specs.declared.value.Ty.TheVariants as type
+use Rattle.sl_key.specs.Order.{key_cmp, kind_cmp, module_of, part_cmp, parts_of, kind_rank, type_cmp, type_rank}
 
 -- the order of steps is total
 pub part_total : IsTotalOrder part_cmp
@@ -21,7 +24,9 @@ part_total = then_total (on_texts (λ part. part.name)) (on_total (λ part. part
 pub key_total : IsTotalOrder key_cmp
 key_total =
     then_total (on_texts module_of)
-    (then_total (on_total parts_of (lists_total part_total)) (on_total kind_of nat_cmp_total))
+    (then_total (on_total parts_of (lists_total part_total))
+    (then_total (on_total (λ key. key.kind) (on_total kind_rank nat_cmp_total))
+    (on_total (λ key. key.args) (lists_total (on_total type_rank nat_cmp_total)))))
 
 -- comparing equal is an equivalence
 pub key_equivalence : IsEquivalence (eq_by_cmp key_cmp)
@@ -45,26 +50,44 @@ part_apart x y h =
     ap (λ n. let part : Part = record { name = n; nth = x.nth } in part) name
     ∙ ap (λ n. let part : Part = record { name = y.name; nth = n } in part) nth
 
+-- kinds at one place are the same
+same_kind : (x y : Kind) → kind_rank x ≡ kind_rank y → x ≡ y
+same_kind Syntax Syntax h = refl
+same_kind Imports Imports h = refl
+same_kind Alias Alias h = refl
+same_kind Const Const h = refl
+same_kind _ _ h = absurd (omega arith)
+
+-- types at one place are the same
+same_type : (x y : Ty) → type_rank x ≡ type_rank y → x ≡ y
+same_type type.Bool type.Bool h = refl
+same_type type.Int type.Int h = refl
+same_type type.Uint type.Uint h = refl
+same_type _ _ h = absurd (omega arith)
+
+type_apart : IsAntisymmetric type_cmp
+type_apart x y h = same_type x y (nat_cmp-IsAntisymmetric _ _ h)
+
 path_apart : (x y : DeclPath) → x.module ≡ y.module → x.parts ≡ y.parts → x ≡ y
 path_apart x y modules parts =
     ap (λ m. let path : DeclPath = record { «module» = m; parts = x.parts } in path) modules
     ∙ ap (λ p. let path : DeclPath = record { «module» = y.module; parts = p } in path) parts
 
--- keys of one kind, module and path are the same
-same_key : (x y : Key) → kind_of x ≡ kind_of y → module_of x ≡ module_of y → parts_of x ≡ parts_of y
-    → x ≡ y
-same_key (Syntax a) (Syntax b) kinds modules parts = ap Syntax modules
-same_key (Imports a) (Imports b) kinds modules parts = ap Imports modules
-same_key (Alias a) (Alias b) kinds modules parts = ap Alias (path_apart a b modules parts)
-same_key (Const a) (Const b) kinds modules parts = ap Const (path_apart a b modules parts)
-same_key _ _ kinds modules parts = absurd (omega arith)
+-- keys of one path, kind and arguments are the same
+same_key : (x y : Key) → x.path ≡ y.path → x.kind ≡ y.kind → x.args ≡ y.args → x ≡ y
+same_key x y paths kinds args =
+    ap (λ p. let key : Key = record { path = p; kind = x.kind; args = x.args } in key) paths
+    ∙ ap (λ k. let key : Key = record { path = y.path; kind = k; args = x.args } in key) kinds
+    ∙ ap (λ a. let key : Key = record { path = y.path; kind = y.kind; args = a } in key) args
 
 -- keys that compare equal are the same key
 pub key_apart : (x y : Key) → key_cmp x y ≡ Equal → x ≡ y
 key_apart x y h =
     let modules = both_equal _ _ h in
-    let others = both_equal _ _ modules.1 in
+    let parts = both_equal _ _ modules.1 in
+    let others = both_equal _ _ parts.1 in
     same_key x y
-    (nat_cmp-IsAntisymmetric _ _ others.1)
-    (slice_cmp-IsAntisymmetric nat_cmp-IsAntisymmetric _ _ modules.0)
-    (slice_cmp-IsAntisymmetric part_apart _ _ others.0)
+    (path_apart x.path y.path (slice_cmp-IsAntisymmetric nat_cmp-IsAntisymmetric _ _ modules.0)
+    (slice_cmp-IsAntisymmetric part_apart _ _ parts.0))
+    (same_kind _ _ (nat_cmp-IsAntisymmetric _ _ others.0))
+    (slice_cmp-IsAntisymmetric type_apart _ _ others.1)

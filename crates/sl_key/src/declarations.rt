@@ -12,7 +12,7 @@ ghost use Rattle.sl_tree.specs.DeclView.{decl_in, module_in};
 ghost use Rattle.sl_key.specs.Index.{IsIndex, IsNamed, number_in};
 ghost use Rattle.sl_key.specs.Names.{declared_at, decls_in, key_named, key_of, keys_of, name_of, named_in, path_in};
 
-use crate::key::Key;
+use crate::key::{Key, Kind};
 use crate::path::{DeclPath, Part};
 use indexmap::IndexMap;
 use sl_base::{Bytes, Name, NameRefusal, NoMemory};
@@ -129,9 +129,13 @@ impl Declarations {
         ensures { IfOk result (λ key. key ≡ key_of module.now (decl_in self.now decl.now)) }
     {
         match decl {
-            DeclTree::Alias(alias) => Ok(Some(Key::Alias(self.path(alloc, module, alias.name)?))),
+            DeclTree::Alias(alias) => {
+                let path = self.path(alloc, module, alias.name)?;
+                Ok(Some(Key::of_path(alloc, Kind::Alias, path)))
+            }
             DeclTree::Const(constant) => {
-                Ok(Some(Key::Const(self.path(alloc, module, constant.name)?)))
+                let path = self.path(alloc, module, constant.name)?;
+                Ok(Some(Key::of_path(alloc, Kind::Const, path)))
             }
             DeclTree::Import(_)
             | DeclTree::Struct(_)

@@ -2,45 +2,60 @@
 
 ghost use Rattle.std.specs.Prelude.{◌≡◌, IfOk, refl};
 ghost use Rattle.std.specs.Cmp.{partial_equiv_from_equiv};
+ghost use Rattle.std.specs.Cmp.Lexicographic.{slice_cmp};
+ghost use Rattle.sl_key.specs.Order.{kind_cmp, type_cmp};
 
-use crate::path::{DeclPath, Part};
-use sl_base::{Name, NoMemory};
+use crate::path::DeclPath;
+use crate::value::Ty;
+use sl_base::{List, Name, NoMemory};
 use std::alloc::Global;
 use std::cmp::Ordering;
 
-/// What can be asked.
-#[derive(Debug, Drop)]
-pub enum Key {
+/// The kinds of keys that are built, in the order of the table of kinds.
+#[derive(Clone, Copy, Debug, PartialEq, Eq, PartialOrd, Ord, Drop)]
+pub enum Kind {
     /// The tree of a module.
-    Syntax(Name),
+    Syntax,
     /// The modules that a module sees.
-    Imports(Name),
+    Imports,
     /// The type of a type alias.
-    Alias(DeclPath),
+    Alias,
     /// The value of a constant.
-    Const(DeclPath),
+    Const,
+}
+
+/// What can be asked: what is known of this kind of the module or declaration to which the path leads,
+/// with these type arguments.
+#[derive(Debug, Drop)]
+pub struct Key {
+    /// A module's own keys have a path of no names.
+    pub path: DeclPath,
+    pub kind: Kind,
+    pub args: List<Ty>,
 }
 
 impl Key {
-    ghost use Rattle.sl_key.specs.Order.{kind_of, module_of, parts_of};
+    ghost use Rattle.sl_key.specs.Order.{module_key, path_key};
 
-    /// The module of the key.
-    pub fn module(&self) -> &Name
-        ensures { result.now ≡ module_of self.now }
+    /// A key of a module.
+    pub fn of_module(alloc: Global, kind: Kind, module: &Name) -> Result<Key, NoMemory>
+        ensures { IfOk result (λ key. key ≡ module_key kind module.now) }
     {
-        match self {
-            Key::Syntax(module) | Key::Imports(module) => module,
-            Key::Alias(path) | Key::Const(path) => &path.module,
-        }
+        let path = DeclPath {
+            module: module.copy(alloc)?,
+            parts: List::new(alloc),
+        };
+        Ok(Key::of_path(alloc, kind, path))
     }
 
-    /// The path in the module; a module's own keys have the path of nothing.
-    pub fn parts(&self) -> &[Part]
-        ensures { result.now ≡ parts_of self.now }
+    /// A key of what a path leads to, without type arguments. It takes no memory.
+    pub fn of_path(alloc: Global, kind: Kind, path: DeclPath) -> Key
+        ensures { result ≡ path_key kind path }
     {
-        match self {
-            Key::Syntax(_) | Key::Imports(_) => &[],
-            Key::Alias(path) | Key::Const(path) => path.parts.as_slice(),
+        Key {
+            path,
+            kind,
+            args: List::new(alloc),
         }
     }
 
@@ -48,24 +63,11 @@ impl Key {
     pub fn copy(&self, alloc: Global) -> Result<Key, NoMemory>
         ensures { IfOk result (λ key. key ≡ self.now) }
     {
-        match self {
-            Key::Syntax(module) => Ok(Key::Syntax(module.copy(alloc)?)),
-            Key::Imports(module) => Ok(Key::Imports(module.copy(alloc)?)),
-            Key::Alias(path) => Ok(Key::Alias(path.copy(alloc)?)),
-            Key::Const(path) => Ok(Key::Const(path.copy(alloc)?)),
-        }
-    }
-
-    // The place of the key's kind in the table of kinds.
-    fn kind(&self) -> u8
-        ensures { result ≡ kind_of self.now }
-    {
-        match self {
-            Key::Syntax(_) => 0,
-            Key::Imports(_) => 1,
-            Key::Alias(_) => 2,
-            Key::Const(_) => 3,
-        }
+        Ok(Key {
+            path: self.path.copy(alloc)?,
+            kind: self.kind,
+            args: List::from_slice(alloc, self.args.as_slice())?,
+        })
     }
 }
 
@@ -116,8 +118,24 @@ impl Ord for Key {
     ghost matches_eq = { λ a b. refl };
 
     fn cmp(&self, other: &Key) -> Ordering {
-        let module = self.module().cmp(other.module());
-        let parts = self.parts().cmp(other.parts());
-        module.then(parts.then(self.kind().cmp(&other.kind())))
+        let module = self.path.module.cmp(&other.path.module);
+        let parts = self.path.parts.as_slice().cmp(other.path.parts.as_slice());
+        let kind = compare_kinds(self.kind, other.kind);
+        let args = compare_types(self.args.as_slice(), other.args.as_slice());
+        module.then(parts.then(kind.then(args)))
     }
+}
+
+// How two kinds are ordered.
+fn compare_kinds(one: Kind, other: Kind) -> Ordering
+    ensures { result ≡ kind_cmp one other }
+{
+    one.cmp(&other)
+}
+
+// How two lists of types are ordered.
+fn compare_types(one: &[Ty], other: &[Ty]) -> Ordering
+    ensures { result ≡ slice_cmp type_cmp one.now other.now }
+{
+    one.cmp(other)
 }

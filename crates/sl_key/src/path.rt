@@ -5,7 +5,7 @@ ghost use Rattle.std.proofs.Common.{rules};
 ghost use Rattle.std.specs.Cmp.{partial_order_from_own_ties};
 ghost use Rattle.std.specs.Cmp.Rules.{comparing};
 
-use sl_base::{List, Name, NoMemory};
+use sl_base::{Bytes, List, Name, NoMemory};
 use std::alloc::Global;
 use std::cmp::Ordering;
 
@@ -36,7 +36,7 @@ impl Part {
 }
 
 impl DeclPath {
-    ghost use Rattle.sl_key.specs.Names.{path_in};
+    ghost use Rattle.sl_key.specs.Names.{path_in, path_text};
 
     /// The path of the declaration of a name at the top of a module.
     pub fn top(alloc: Global, module: &Name, name: &Name) -> Result<DeclPath, NoMemory>
@@ -51,6 +51,18 @@ impl DeclPath {
             module: module.copy(alloc)?,
             parts,
         })
+    }
+
+    /// How a path is told: its module and its names.
+    pub fn text(&self, alloc: Global) -> Result<Bytes, NoMemory>
+        ensures { IfOk result (λ text. text ≡ path_text self.now) }
+    {
+        let mut text = Bytes::from_slice(alloc, self.module.bytes())?;
+        for part in self.parts.as_slice() {
+            text.push(b'.')?;
+            text.extend_from_slice(part.name.bytes())?;
+        }
+        Ok(text)
     }
 
     /// An equal path, with names of its own.

@@ -1,6 +1,6 @@
 //! The order of keys, and copies of answers.
 
-use crate::{Answer, DeclPath, Key};
+use crate::{Answer, DeclPath, Key, Kind};
 use qe_rules::Cycle;
 use sl_base::{Bytes, Diag, List, Name, Site};
 use std::alloc::Global;
@@ -16,14 +16,14 @@ fn name_of(alloc: Global, text: &str) -> Result<Name, Fail> {
 fn alias_key(alloc: Global, module: &str, name: &str) -> Result<Key, Fail> {
     let module = name_of(alloc, module)?;
     let name = name_of(alloc, name)?;
-    Ok(Key::Alias(DeclPath::top(alloc, &module, &name)?))
+    Ok(Key::of_path(alloc, Kind::Alias, DeclPath::top(alloc, &module, &name)?))
 }
 
 /// The key of a constant at the top of a module.
 fn const_key(alloc: Global, module: &str, name: &str) -> Result<Key, Fail> {
     let module = name_of(alloc, module)?;
     let name = name_of(alloc, name)?;
-    Ok(Key::Const(DeclPath::top(alloc, &module, &name)?))
+    Ok(Key::of_path(alloc, Kind::Const, DeclPath::top(alloc, &module, &name)?))
 }
 
 /// Stops the test unless one key stands before another.
@@ -35,7 +35,7 @@ fn expect_less(rt: &impl Abort, less: &Key, greater: &Key) {
 fn keys_are_ordered_by_their_modules_first(rt: HostRuntime) -> Result<(), Fail> {
     let alloc = rt.alloc();
     let last_of_module = alias_key(alloc, "m", "B")?;
-    let other = Key::Syntax(name_of(alloc, "n")?);
+    let other = Key::of_module(alloc, Kind::Syntax, &name_of(alloc, "n")?)?;
     expect_less(&rt, &last_of_module, &other);
     Ok(())
 }
@@ -43,7 +43,7 @@ fn keys_are_ordered_by_their_modules_first(rt: HostRuntime) -> Result<(), Fail> 
 #[test]
 fn keys_of_a_module_are_ordered_by_their_paths(rt: HostRuntime) -> Result<(), Fail> {
     let alloc = rt.alloc();
-    let imports = Key::Imports(name_of(alloc, "m")?);
+    let imports = Key::of_module(alloc, Kind::Imports, &name_of(alloc, "m")?)?;
     let first = const_key(alloc, "m", "A")?;
     let second = alias_key(alloc, "m", "B")?;
     expect_less(&rt, &imports, &first);

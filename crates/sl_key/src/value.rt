@@ -1,7 +1,10 @@
 //! Types and values.
 
+ghost use Rattle.std.specs.Prelude.{◌≡◌};
+ghost use Rattle.sl_key.specs.Fault.{mark_of, text_of};
+
 /// A type.
-#[derive(Clone, Copy, Debug, PartialEq, Eq)]
+#[derive(Clone, Copy, Debug, PartialEq, Eq, PartialOrd, Ord)]
 pub enum Ty {
     Bool,
     Int,
@@ -22,4 +25,30 @@ pub enum Arithmetic {
     Add,
     Subtract,
     Multiply,
+}
+
+impl Ty {
+    /// How a type is told.
+    pub fn text(self) -> &'static str
+        ensures { result.now ≡ text_of self }
+    {
+        match self {
+            Ty::Bool => "bool",
+            Ty::Int => "int",
+            Ty::Uint => "uint",
+        }
+    }
+}
+
+impl Arithmetic {
+    /// The mark of an operator.
+    pub fn mark(self) -> &'static str
+        ensures { result.now ≡ mark_of self }
+    {
+        match self {
+            Arithmetic::Add => "+",
+            Arithmetic::Subtract => "-",
+            Arithmetic::Multiply => "*",
+        }
+    }
 }

@@ -1,9 +1,0 @@
-use Rattle.std.proofs.Common.{◌≡◌, ◌∷◌, ◌++◌, take}
-use Rattle.std.specs.List.{flat_map}
-use Rattle.sl_key.specs.Order.{module_of}
-use Rattle.sl_key.specs.declared.path.Part.{Part}
-use Rattle.rl_all.proofs.telling.key_text.Given as goal
-
-abbrev pub invariant-loop-part : goal.invariant-loop-part
-invariant-loop-part l =
-    l.text ≡ module_of l.key ++ flat_map (λ (part : Part). 46 ∷ part.name) (take l.part-index l.part-items)
