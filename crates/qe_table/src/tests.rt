@@ -9,12 +9,14 @@
 //! | sixty-four callers | 64 | one key; a ring | publishing |
 
 ghost use Rattle.std.specs.Prelude.{◌≡◌, [], IfOk};
+ghost use Rattle.std.specs.Ordering.{nat_cmp};
 ghost use Rattle.def_query.specs.Edges.{edge_meaning};
 ghost use Rattle.def_query.proofs.Edges.{edges_lawful};
+ghost use Rattle.qe_rules.specs.Frame.{IsRight};
 
 use crate::Table;
 use qe_core::{Event, Outcome};
-use qe_rules::{Cycle, Known, Rules, Step, Steps};
+use qe_rules::{Anew, Bodies, Cycle, Known, Rules, Step, Steps, resume_anew};
 use sl_base::{List, NoMemory};
 use std::alloc::Global;
 use std::process::Abort;
@@ -28,7 +30,7 @@ type Told = Result<Option<u8>, List<u8>>;
 #[derive(Drop)]
 struct Plain;
 
-impl Rules for Plain {
+impl Bodies for Plain {
     type Key = u8;
 
     type Answer = Told;
@@ -46,10 +48,6 @@ impl Rules for Plain {
         Ok(Step::Done(Ok(if *key == 0 { Some(0) } else { None })))
     }
 
-    fn circular(&self, alloc: Global, cycle: &Cycle<u8>) -> Result<Told, NoMemory> {
-        told(alloc, cycle.as_slice())
-    }
-
     fn copy_key(&self, _alloc: Global, key: &u8) -> Result<u8, NoMemory> {
         Ok(*key)
     }
@@ -62,6 +60,60 @@ impl Rules for Plain {
     }
 
     ghost lawful = { λ r. edges_lawful [] 0 };
+}
+
+impl Rules for Plain {
+    type Key = u8;
+
+    type Answer = Told;
+
+    type Frame = Anew<u8, Told>;
+
+    ghost meaning = { λ r. edge_meaning [] 0 };
+
+    ghost stands_for = { λ f. f };
+
+    ghost is_of = { λ r f. IsRight nat_cmp (edge_meaning [] 0) f };
+
+    fn step<L: Ledger>(
+        &self,
+        alloc: Global,
+        key: &u8,
+        known: &Known<u8, Told>,
+        steps: &mut Steps<L>,
+    ) -> Result<Step<u8, Told>, NoMemory> {
+        Bodies::step(self, alloc, key, known, steps)
+    }
+
+    fn begin(&self, alloc: Global, key: &u8) -> Result<Anew<u8, Told>, NoMemory> {
+        Ok(Anew::new(alloc, *key))
+    }
+
+    fn resume<L: Ledger>(
+        &self,
+        alloc: Global,
+        frame: &mut Anew<u8, Told>,
+        known: &Known<u8, Told>,
+        steps: &mut Steps<L>,
+    ) -> Result<Step<u8, Told>, NoMemory> {
+        resume_anew(alloc, self, frame, known, steps)
+    }
+
+    fn circular(&self, alloc: Global, cycle: &Cycle<u8>) -> Result<Told, NoMemory> {
+        told(alloc, cycle.as_slice())
+    }
+
+    fn copy_key(&self, alloc: Global, key: &u8) -> Result<u8, NoMemory> {
+        Bodies::copy_key(self, alloc, key)
+    }
+
+    fn copy_answer(&self, alloc: Global, answer: &Told) -> Result<Told, NoMemory> {
+        Bodies::copy_answer(self, alloc, answer)
+    }
+
+    ghost lawful = { λ r. edges_lawful [] 0 };
+
+    ghost right = { λ r f of. of };
 }
 
 // The answer that tells a cycle.
