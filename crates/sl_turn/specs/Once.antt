@@ -31,16 +31,25 @@ module _ {E O : Type 0} where
   books_after (Unchanged out) entry n books = books
 
 module _ {S E O : Type 0} (by : E → ℕ) (legal : S → List E → Type 0) where
-  -- what may come of a turn: each legal history that may be found passes the work's test, and where the
-  -- work enters, its entry is legal after it
-  abbrev pub MayTurn : PassState S E → E → (List E → Type 0) → (S → List E → Turned O → Type 0) → Type 0
-  MayTurn pass entry fits tells = (history : List E) → legal pass.lock.subject history → IsCurrent by pass history
-      → fits history × ((out : O) → tells pass.lock.subject history (Entered out) → legal pass.lock.subject (history ++ entry ∷ []))
+  -- what may come of a turn: each legal history that may be found passes the work's test, and where
+  -- the work enters, its entry is legal after it
+  abbrev pub MayTurn : PassState S E → E → (List E → Type 0)
+      → (S → List E → Turned O → Type 0) → Type 0
+  MayTurn pass entry fits tells = (history : List E)
+      → legal pass.lock.subject history → IsCurrent by pass history
+      → fits history
+      × ((out : O) → tells pass.lock.subject history (Entered out)
+      → legal pass.lock.subject (history ++ entry ∷ []))
 
   -- what came of a turn that found this history
-  pub record HasTurned (entry : E) (tells : S → List E → Turned O → Type 0) (before : PassState S E) (turned : Turned O) (after : PassState S E) : Type 0 where
+  pub record HasTurned (entry : E) (tells : S → List E → Turned O → Type 0)
+      (before : PassState S E) (turned : Turned O) (after : PassState S E) : Type 0 where
     pub found : List E
     pub legal_found : legal before.lock.subject found
     pub current : IsCurrent by before found
     pub told : tells before.lock.subject found turned
-    pub pass : after ≡ record before { seen = history_after turned entry found; books = books_after turned entry before.number before.books; turns = before.turns + 1 }
+    pub pass : after ≡ record before {
+      seen = history_after turned entry found;
+      books = books_after turned entry before.number before.books;
+      turns = before.turns + 1;
+    }

@@ -1,4 +1,4 @@
--- The rule of a lock. Word 0 is the next ticket, word 1 the serving number, and slot 0 has the value.
+-- The rule of a lock. Word 0 is the next ticket, word 1 the serving number, slot 0 has the value.
 use Rattle.std.specs.Prelude.{◌≡◌, ◌≢◌, ◌⊎◌, ℕ, ◌+◌, ◌%◌, ◌^◌, ◌<◌, ◌≤◌, min, true, false, List, [], ◌∷◌, Option, Some, None}
 use mathlib.Core.List.{IsPrefix}
 use mathlib.Core.Option as maybe
@@ -53,25 +53,30 @@ module _ {S E : Type 0} where
 
   -- the slot is out with the seat that is in its turn
   abbrev pub IsOut : {T : Type 0} → State (Option T) (View S E) → Type 0
-  IsOut s = (s.homes ≡ maybe.none ∷ []) × ((j : ℕ) × (v : View S E) × At s.views j v × (v.in_turn ≡ true))
+  IsOut s = (s.homes ≡ maybe.none ∷ [])
+      × ((j : ℕ) × (v : View S E) × At s.views j v × (v.in_turn ≡ true))
 
   module _ (by : E → ℕ) (legal : S → List E → Type 0) where
-    -- what holds of the view of a seat that is not spent, where the lock's value, or the one that the
-    -- seat in its turn has taken, stands for this history, and the numbers below `top` were given out
+    -- what holds of the view of a seat that is not spent, where the lock's value, or the one that
+    -- the seat in its turn has taken, stands for this history, and the numbers below `top` were
+    -- given out
     pub record Knows (subject : S) (history : List E) (top : ℕ) (v : View S E) : Type 0 where
       pub subject_is : v.subject ≡ Some subject
       pub begins : IsPrefix v.seen history
       pub legal_seen : legal subject v.seen
       pub own : Holds v.books v.number
       pub given_out : (n : ℕ) → Holds v.books n → (1 ≤ n) × (n < top)
-      pub booked : (n : ℕ) (entries : List E) → HasBook v.books n entries → (entries_of by n history ≡ entries) × (entries_of by n v.seen ≡ entries)
+      pub booked : (n : ℕ) (entries : List E) → HasBook v.books n entries
+          → (entries_of by n history ≡ entries) × (entries_of by n v.seen ≡ entries)
       pub next_is : v.next ≢ 0 → v.next ≡ top
       pub begins_joined : IsPrefix v.joined v.seen
 
-module _ {T S E : Type 0} (subject_of : T → S) (history_of : T → List E) (by : E → ℕ) (legal : S → List E → Type 0) where
+module _ {T S E : Type 0} (subject_of : T → S) (history_of : T → List E)
+    (by : E → ℕ) (legal : S → List E → Type 0) where
   -- the slot is full, its value stands for the history, and no seat is in its turn
   abbrev pub IsFull : S → List E → State (Option T) (View S E) → Type 0
-  IsFull subject history s = (value : T) × (s.homes ≡ maybe.some (Some value) ∷ []) × (subject_of value ≡ subject) × (history_of value ≡ history) × NoneInTurn s.views
+  IsFull subject history s = (value : T) × (s.homes ≡ maybe.some (Some value) ∷ [])
+      × (subject_of value ≡ subject) × (history_of value ≡ history) × NoneInTurn s.views
 
   -- the rule
   pub record Kept (subject : S) (s : State (Option T) (View S E)) : Type 0 where
@@ -90,6 +95,8 @@ module _ {T S E : Type 0} (subject_of : T → S) (history_of : T → List E) (by
     pub tickets_differ : Apart ShareTicket s.views
     pub one_holder : Apart ShareNumber s.views
     pub one_splitter : Apart BothSplit s.views
-    pub views : (j : ℕ) (v : View S E) → At s.views j v → (v ≡ spent) ⊎ Knows by legal subject history top v
-    pub in_turn : (j : ℕ) (v : View S E) → At s.views j v → v.in_turn ≡ true → (v.ticket ≡ Some served) × (v.seen ≡ history)
+    pub views : (j : ℕ) (v : View S E) → At s.views j v
+        → (v ≡ spent) ⊎ Knows by legal subject history top v
+    pub in_turn : (j : ℕ) (v : View S E) → At s.views j v → v.in_turn ≡ true
+        → (v.ticket ≡ Some served) × (v.seen ≡ history)
     pub slot : IsFull subject history s ⊎ IsOut s

@@ -6,7 +6,17 @@ use Rattle.sl_turn.specs.declared.view.View.{View}
 
 -- the view of a seat that was joined into another
 abbrev pub spent : {S E : Type 0} → View S E
-spent = record { subject = None; number = 0; seen = []; joined = []; books = []; turns = 0; next = 0; ticket = None; in_turn = false }
+spent = record {
+  subject = None;
+  number = 0;
+  seen = [];
+  joined = [];
+  books = [];
+  turns = 0;
+  next = 0;
+  ticket = None;
+  in_turn = false;
+}
 
 -- the view of the first seat
 abbrev pub first_view : {S E : Type 0} → S → View S E
@@ -65,7 +75,14 @@ given_back history v = record v {
 
 -- what a caller's contract sees of a view
 abbrev pub pass_of : {S E : Type 0} → Lock S → View S E → PassState S E
-pass_of lock v = record { lock = lock; number = v.number; seen = v.seen; books = v.books; turns = v.turns; next = v.next }
+pass_of lock v = record {
+  lock = lock;
+  number = v.number;
+  seen = v.seen;
+  books = v.books;
+  turns = v.turns;
+  next = v.next;
+}
 
 -- the view of a seat between its turns, which carries nothing
 pub record IsIdle {S E T : Type 0} (me : Me (Option T) (View S E)) : Type 0 where

@@ -1,3 +1,20 @@
+//! Turns of callers beside each other.
+//!
+//! What may differ between two runs, and what shows each: a test here, or a theorem for every schedule.
+//!
+//! | axis | sides, and what shows each |
+//! |---|---|
+//! | callers | one: `a_full_tally_..`; two: `a_caller_waits_..`; four: `four_callers_..` |
+//! | turns | beside each other: `four_callers_..`; one after another: `the_last_pass_..` |
+//! | a turn leaves | its entry: `four_callers_..`; nothing: `a_full_tally_..` |
+//! | passes are joined | in turn: `the_last_pass_..`; by two threads at once: `passes_can_be_..` |
+//! | memory | is there: each test; is refused: only `new` takes some, and drops the value |
+//! | waits | in a row: `a_caller_waits_..`; in a ring: none, as a caller waits for one ticket alone |
+//!
+//! Claims, cycles, publishing and abandoning are events of the value: the laws of `qe_core` speak of them.
+//! For every schedule: `HasTurned` says what one turn found and left, and `close` that the books have the
+//! whole history, each entry once and in order.
+
 ghost use Rattle.std.specs.Prelude.{◌≡◌, ◌⊎◌, ℕ, max, IfOk};
 ghost use Rattle.def_turn.specs.Pass.{Holds, first_pass};
 
@@ -298,6 +315,16 @@ fn add_in_order<R: Threads + Wait + Clock + Sync>(
     one
 }
 
+// The schedule that the test forces, from above down; `inside` is the flag between the two:
+//
+//     caller 1                              caller 2
+//     draws ticket 0, is served
+//     enters its turn, sets `inside`        loads `inside` until it is set
+//     sleeps 50 ms within its turn          draws ticket 1, waits
+//     adds its entry, ends its turn         .
+//     .                                     is served, adds its entry
+//
+// The history is therefore 1, 2. Were the lock to let caller 2 in while caller 1 sleeps, it would be 2, 1.
 #[test]
 fn a_caller_waits_until_the_turn_before_ends(rt: HostRuntime) -> Result<(), Fail> {
     let (turn, mut one) = lock_of(rt.alloc(), u64::MAX)?;

@@ -25,6 +25,15 @@ fn words<H: Env + AllocGlobal>(rt: &H) -> io::Result<Vec<String>> {
     Ok(words)
 }
 
+/// The status where the words cannot be had: one that is not UTF-8 is no word of a command, and nothing
+/// else can fail but memory.
+fn refusal(error: &io::Error) -> Status {
+    match error.kind() {
+        io::ErrorKind::InvalidData => Status::Usage,
+        _ => Status::NoMemory,
+    }
+}
+
 /// The roots over the folders.
 fn roots<H: Files + Clone + Drop + AllocGlobal>(rt: &H) -> io::Result<Vec<DirRoot<H>>> {
     let mut roots = Vec::new(rt.alloc());
@@ -48,18 +57,14 @@ fn run<L: Ledger, H: Env + Files + Clone + Drop + AllocGlobal, I: Source, O: Sin
     requires some { 0 < L.parts }
 {
     let mut steps: Steps<L> = Steps::new(blank);
-    match (words(rt), roots(rt)) {
-        (Ok(words), Ok(mut roots)) => run_alone(
-            rt.alloc(),
-            &words,
-            &mut roots,
-            input,
-            out,
-            err,
-            &mut steps,
-        ),
-        // Both are made in memory, and nothing else of them can fail.
-        _ => report(Status::NoMemory, err),
+    let words = match words(rt) {
+        Ok(words) => words,
+        Err(error) => return report(refusal(&error), err),
+    };
+    match roots(rt) {
+        Ok(mut roots) => run_alone(rt.alloc(), &words, &mut roots, input, out, err, &mut steps),
+        // They are made in memory, and nothing else of them can fail.
+        Err(_) => report(Status::NoMemory, err),
     }
 }
 
