@@ -108,9 +108,24 @@ impl<R: Rules> Core<R> {
     {
         match event {
             Event::Ask(caller, key) => self.ask(alloc, rules, caller, key),
-            Event::Publish(caller, answer) => Ok(self.publish(caller, answer)),
-            Event::Look(caller) => Ok(self.look(caller)),
-            Event::Abandon(caller) => Ok(self.abandon(caller)),
+            other => Ok(self.apply_other(other)),
+        }
+    }
+
+    /// One event other than an Ask. It takes no memory and reads no rules.
+    pub fn apply_other(&mut self, event: Event<R::Key, R::Answer>) -> Outcome<R::Key>
+        requires fits { Fits R.Key.cmp self.old event }
+        requires no_ask { IsNoAsk event }
+        ensures outcome { (s : State R.Key R.Answer) →
+            IsSame R.Key.cmp self.old s → result ≡ outcome R.Key.cmp s event }
+        ensures state { (s : State R.Key R.Answer) →
+            IsSame R.Key.cmp self.old s → IsSame R.Key.cmp self.new (after R.Key.cmp s event) }
+    {
+        match event {
+            Event::Ask(_, _) => unreachable!(),
+            Event::Publish(caller, answer) => self.publish(caller, answer),
+            Event::Look(caller) => self.look(caller),
+            Event::Abandon(caller) => self.abandon(caller),
         }
     }
 
