@@ -1,10 +1,9 @@
 -- The culprits of spoilt answers break rules themselves.
-use Rattle.std.proofs.Common.{◌≡◌, ◌∙◌, refl, sym, ap, subst, inl, inr, ℕ, zero, suc, List, [], ◌∷◌, Option, Some, None}
+use Rattle.std.proofs.Common.{◌≡◌, ◌∙◌, refl, sym, ap, subst, inl, inr, ℕ, zero, suc, Option, Some, None}
 use Rattle.std.specs.Prelude.{Result, Ok, Err}
 use Rattle.sl_base.specs.declared.diag.Diag.{Diag}
 use Rattle.sl_key.specs.Flow.{Facts, Flow, Holds, Needs, Stop, Value as Given, and_then, finished, held_as, hold, or_spoiled, used, used_by}
 use Rattle.sl_key.specs.Order.{key_cmp}
-use Rattle.sl_key.specs.Ordered.{key_apart, key_total}
 use Rattle.sl_key.specs.declared.answer.Answer.{Answer}
 use Rattle.sl_key.specs.declared.answer.Answer.TheVariants.{Good, Bad, Spoiled, Circular}
 use Rattle.sl_key.specs.declared.answer.Good.{Good as Held}
@@ -13,9 +12,8 @@ use Rattle.sl_key.specs.declared.key.Kind.{Kind}
 use Rattle.sl_key.specs.declared.key.Kind.TheVariants.{Syntax, Imports, Alias, Const}
 use Rattle.def_query.specs.Answer.{Answers}
 use Rattle.def_query.specs.Map.{get}
-use Rattle.def_query.specs.Settles.{IsGiven, Settled, Settles}
+use Rattle.def_query.specs.Settles.{Settled, Settles}
 use Rattle.def_query.specs.declared.step.Step.TheVariants as step
-use Rattle.def_query.proofs.Maps.{get_cases}
 use Rattle.def_sources.specs.Sources.{Sources}
 use Rattle.def_body.specs.Part.{Body, Break, Give, Known, Part, Reads, Use, answer_of, run, run_body}
 use Rattle.def_check.specs.Body.{body, meaning_of}
@@ -148,15 +146,6 @@ body_kind kind m (Reads part) v e none = flow_kind kind (run m part) v (never_ru
 -- ---- answers
 
 module _ (sources : Sources) where
-  given_has : (R : Key → Answer → Type 0) (x k : Key) (m : Facts) (a : Answer)
-      → IsGiven key_cmp (meaning_of sources) R x m → get key_cmp m k ≡ Some a → R k a
-  given_has R x k [] a given h = absurd (cc)
-  given_has R x k (p ∷ m) a given h =
-      elim (get_cases key_cmp key_total key_apart p.0 k p.1 a m h) [
-        | inl e ↦ subst (λ b. R k b) e.1 (subst (λ q. R q p.1) (sym e.0) given.1)
-        | inr e ↦ given_has R x k m a given.2 e
-      ]
-
   settled_kind : (n : ℕ) (k : Key) (v : Held) → Settled key_cmp (meaning_of sources) n k (Good v)
       → held_as k.kind v ≡ None → ⊥
   settled_kind zero k v s none = s
@@ -179,8 +168,7 @@ module _ (sources : Sources) where
   culprit_bad (suc n) k q s =
       let blamed = blame_body k.kind s.0 (body sources k.kind k.path) q s.2 in
       bad_by n blamed.key q blamed.answer (λ p t. culprit_bad n blamed.key p t)
-      (given_has (Settled key_cmp (meaning_of sources) n) k blamed.key s.0 blamed.answer s.1 blamed.has)
-      blamed.blames
+      (s.1 blamed.key blamed.answer blamed.has) blamed.blames
 
 -- the culprit of a spoilt answer breaks a rule itself
 pub culprits_are_bad : CulpritsAreBad
