@@ -105,104 +105,6 @@ fn an_absent_module_is_told_at_the_request(rt: HostRuntime) -> Result<(), Fail> 
 }
 
 #[test]
-fn a_module_that_is_at_fault_is_told_alone(rt: HostRuntime) -> Result<(), Fail> {
-    for (text, told) in [
-        ("\n $;", "m:2:2: error E101: unexpected byte 24\n"),
-        ("\n/* open", "m:2:1: error E102: comment not closed\n"),
-        (
-            "static const int K = 2147483648;",
-            "m:1:22: error E103: bad number\n",
-        ),
-        ("[shader(\"open)]", "m:1:9: error E105: string not closed\n"),
-        ("\n ;", "m:2:2: error E110: unexpected ;\n"),
-        (
-            "typealias A = ",
-            "m:1:15: error E110: unexpected end of file\n",
-        ),
-        (
-            "typealias A = int;\ntypealias A = N;",
-            "m:2:11: error E120: A is declared twice\n",
-        ),
-        (
-            "typealias A = int; struct S {}",
-            "m:1:20: error E100: form not built yet\n",
-        ),
-    ] {
-        expect(&rt, text, told, 1)?;
-    }
-    Ok(())
-}
-
-#[test]
-fn the_first_declaration_that_is_not_built_is_told(rt: HostRuntime) -> Result<(), Fail> {
-    let told = "m:3:1: error E100: form not built yet\n";
-    for last in [
-        "public typealias C = int;",
-        "static const int C = A / B;",
-        "int f() { return A; }",
-    ] {
-        let good = "static const int A = 1;\ntypealias B = N;\n";
-        let text = format!(in rt.alloc(); "{good}{last}\nstruct S {{}}")?;
-        expect(&rt, text.as_str(), told, 1)?;
-    }
-    Ok(())
-}
-
-#[test]
-fn a_name_that_a_function_declares_twice_comes_first(rt: HostRuntime) -> Result<(), Fail> {
-    let told = "m:3:19: error E120: x is declared twice\n";
-    let function = "void f(int x, int x) {}";
-    for others in [
-        "struct S {}\nstruct T {}\n",
-        "typealias A = int;\ntypealias A = int;\n",
-    ] {
-        let text = format!(in rt.alloc(); "{others}{function}")?;
-        expect(&rt, text.as_str(), told, 1)?;
-    }
-    Ok(())
-}
-
-#[test]
-fn a_value_of_another_type_is_told_once(rt: HostRuntime) -> Result<(), Fail> {
-    let told = "m:1:22: error E302: cannot convert bool to int\n";
-    expect(&rt, "static const int K = true;", told, 3)?;
-    expect(
-        &rt,
-        "static const int K = true;\nstatic const int L = K;",
-        told,
-        4,
-    )
-}
-
-#[test]
-fn names_and_operators_are_told_where_they_stand(rt: HostRuntime) -> Result<(), Fail> {
-    expect(
-        &rt,
-        "typealias A = N;",
-        "m:1:15: error E301: unknown name N\n",
-        3,
-    )?;
-    expect(
-        &rt,
-        "static const int K = 1;\ntypealias A = K;",
-        "m:2:15: error E303: K is not a type\n",
-        4,
-    )?;
-    expect(
-        &rt,
-        "typealias A = int;\nstatic const int K = A;",
-        "m:2:22: error E304: A is not a value\n",
-        4,
-    )?;
-    expect(
-        &rt,
-        "static const int K = 1 + true;",
-        "m:1:24: error E311: operator + does not take bool\n",
-        3,
-    )
-}
-
-#[test]
 fn a_cycle_is_told_once_at_its_least_key(rt: HostRuntime) -> Result<(), Fail> {
     expect(
         &rt,
@@ -220,17 +122,6 @@ fn a_cycle_is_told_once_at_its_least_key(rt: HostRuntime) -> Result<(), Fail> {
         &rt,
         "typealias A = B;\ntypealias B = A;\ntypealias C = A;",
         "m:1:11: error E901: circular: m.A -> m.B -> m.A\n",
-        5,
-    )
-}
-
-#[test]
-fn diagnostics_stand_in_the_order_of_their_places(rt: HostRuntime) -> Result<(), Fail> {
-    expect(
-        &rt,
-        "static const int L = K;\nstatic const int J = true;\nstatic const int K = false + 1;",
-        "m:2:22: error E302: cannot convert bool to int\n\
-         m:3:28: error E311: operator + does not take bool\n",
         5,
     )
 }

@@ -47,13 +47,6 @@ const FIRST_WORDS: [u32; 176] = [
     0x0000001c, 0x00000011, 0x000200f9, 0x00000019, 0x000200f8, 0x00000019, 0x000100fd, 0x00010038,
 ];
 
-/// Where the threads stand in these words, along x, y and z, and the number that is written.
-const THREADS: [usize; 3] = [20, 21, 22];
-
-const NUMBER: usize = 110;
-
-const NOT_BUILT: &str = "input:1:1: error E100: form not built yet\n";
-
 /// The calls that fail, counted from 1.
 #[derive(Clone, Copy)]
 pub struct Faults<'a> {
@@ -152,104 +145,6 @@ fn one_writes_the_words_of_the_module(rt: HostRuntime) -> Result<(), Fail> {
 }
 
 #[test]
-fn threads_and_number_stand_in_the_words(rt: HostRuntime) -> Result<(), Fail> {
-    let alloc = rt.alloc();
-    let text =
-        b"\xEF\xBB\xBFRWStructuredBuffer < int>b ; [ shader(\"compute\")] [numthreads(2,\t3 ,170)]\r
-        void main(uint3 id:SV_DispatchThreadID){b[id . x]=2147483647;}";
-    let mut words = FIRST_WORDS;
-    words[THREADS[0]] = 2;
-    words[THREADS[1]] = 3;
-    words[THREADS[2]] = 170;
-    words[NUMBER] = 2147483647;
-    let ended = run(alloc, &["one", "main"], text, NO_FAULTS)?;
-    expect_ending(&rt, &ended, Status::Done, &bytes_of(alloc, &words)?, "");
-    Ok(())
-}
-
-#[test]
-fn another_entry_point_is_told(rt: HostRuntime) -> Result<(), Fail> {
-    let ended = run(rt.alloc(), &["one", "other"], FIRST.as_bytes(), NO_FAULTS)?;
-    let line = "request: error E601: no entry point other in input\n";
-    expect_ending(&rt, &ended, Status::Diagnosed, &[], line);
-    Ok(())
-}
-
-/// A module of one line with a buffer, the numbers of threads, a name of the id and a number.
-fn module(
-    alloc: Global,
-    buffer: &str,
-    threads: &str,
-    id: &str,
-    number: &str,
-) -> Result<String, Fail> {
-    Ok(format!(in alloc;
-        "RWStructuredBuffer<int> {buffer}; [shader(\"compute\")] [numthreads({threads})] void main(uint3 {id} : SV_DispatchThreadID) {{ {buffer}[{id}.x] = {number}; }}"
-    )?)
-}
-
-#[test]
-fn only_modules_of_the_form_are_built(rt: HostRuntime) -> Result<(), Fail> {
-    let alloc = rt.alloc();
-    for (buffer, threads, id, number, built) in [
-        ("b", "1,1,1", "id", "0", true),
-        ("b", "1024,1,1", "id", "1", true),
-        ("SV_DispatchThreadID", "1,1,1", "compute", "1", true),
-        ("b", "1025,1,1", "id", "1", false),
-        ("b", "1,0,1", "id", "1", false),
-        ("b", "32,33,1", "id", "1", false),
-        ("b", "1,1,01", "id", "1", false),
-        ("b", "1,1,1u", "id", "1", false),
-        ("b", "1,1,1", "id", "2147483648", false),
-        ("b", "1,1,1", "id", "+1", false),
-        ("b", "1,1,1", "id", "0x1", false),
-        ("b", "1,1,1", "id", "1 // one", false),
-        ("b", "1,1,1", "b", "1", false),
-        ("main", "1,1,1", "id", "1", false),
-        ("int", "1,1,1", "id", "1", false),
-        ("b", "1,1,1", "1d", "1", false),
-    ] {
-        let text = module(alloc, buffer, threads, id, number)?;
-        let ended = run(alloc, &["one", "main"], text.as_bytes(), NO_FAULTS)?;
-        let status = if built {
-            Status::Done
-        } else {
-            Status::Diagnosed
-        };
-        assert_eq!(rt; &ended.status, &status, "{text}");
-        let line = if built { "" } else { NOT_BUILT };
-        assert_eq!(rt; ended.err.as_slice(), line.as_bytes(), "{text}");
-    }
-    Ok(())
-}
-
-#[test]
-fn an_empty_input_is_not_built(rt: HostRuntime) -> Result<(), Fail> {
-    let ended = run(rt.alloc(), &["one", "main"], b"", NO_FAULTS)?;
-    expect_ending(&rt, &ended, Status::Diagnosed, &[], NOT_BUILT);
-    Ok(())
-}
-
-fn expect_usage(rt: &(impl Abort + AllocGlobal), words: &[&str]) -> Result<(), Fail> {
-    let ended = run(rt.alloc(), words, FIRST.as_bytes(), NO_FAULTS)?;
-    let line = "usage: slangrun one ENTRY | check MODULE\n";
-    expect_ending(rt, &ended, Status::Usage, &[], line);
-    Ok(())
-}
-
-#[test]
-fn other_words_are_no_command(rt: HostRuntime) -> Result<(), Fail> {
-    expect_usage(&rt, &[])?;
-    expect_usage(&rt, &["one"])?;
-    expect_usage(&rt, &["one", "1a"])?;
-    expect_usage(&rt, &["One", "main"])?;
-    expect_usage(&rt, &["one", "main", "main"])?;
-    expect_usage(&rt, &["check"])?;
-    expect_usage(&rt, &["check", "m.slang"])?;
-    expect_usage(&rt, &["check", "m", "m"])
-}
-
-#[test]
 fn faults_of_each_object_are_told(rt: HostRuntime) -> Result<(), Fail> {
     let alloc = rt.alloc();
     let words = ["one", "main"];
@@ -289,18 +184,6 @@ fn faults_of_each_object_are_told(rt: HostRuntime) -> Result<(), Fail> {
     );
     let ended = run(alloc, &["two"], b"", err)?;
     expect_ending(&rt, &ended, Status::Usage, &[], "usage: sla");
-    Ok(())
-}
-
-#[test]
-fn an_input_has_at_most_262144_bytes(rt: HostRuntime) -> Result<(), Fail> {
-    let alloc = rt.alloc();
-    let text = vec![in alloc; b' '; 262_145]?;
-    let ended = run(alloc, &["one", "main"], &text[1..], NO_FAULTS)?;
-    expect_ending(&rt, &ended, Status::Diagnosed, &[], NOT_BUILT);
-    let ended = run(alloc, &["one", "main"], &text, NO_FAULTS)?;
-    let line = "slangrun: limit: input is too large\n";
-    expect_ending(&rt, &ended, Status::InputTooLarge, &[], line);
     Ok(())
 }
 
