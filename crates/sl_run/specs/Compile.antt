@@ -5,11 +5,10 @@ use Rattle.def_slang.specs.BufferWrite.{BufferWrite, IsBufferWrite}
 use Rattle.def_spirv.specs.Words.{spelling}
 use Rattle.def_emit.specs.Lower.{program_of}
 use Rattle.def_emit.specs.Emit.{emitted}
-use Rattle.def_check.specs.Parts.{diagnostic}
-use Rattle.def_check.specs.Syntax.{first_place}
 use Rattle.def_reply.specs.Text.{diagnostic_line}
 use Rattle.sl_base.specs.declared.diag.Diag.{Diag}
-use Rattle.sl_base.specs.declared.diag.Site.TheVariants.{Request}
+use Rattle.sl_base.specs.declared.diag.Site.TheVariants.{Request, Source}
+use Rattle.sl_key.specs.Fault.{first_place}
 use Rattle.sl_run.specs.declared.compile.Compilation.{Compilation}
 use Rattle.sl_run.specs.declared.compile.Compilation.TheVariants.{Code, Diagnostics}
 
@@ -19,7 +18,7 @@ input_name = codes "input"
 
 -- the module has a form that is not built
 abbrev pub not_built : Diag
-not_built = diagnostic input_name first_place 100 []
+not_built = record { site = Source input_name first_place; code = 100; args = [] }
 
 -- the module has no entry point of this name
 abbrev pub no_entry_point : List ℕ → Diag
