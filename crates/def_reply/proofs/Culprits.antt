@@ -10,7 +10,6 @@ use Rattle.sl_key.specs.declared.answer.Good.{Good as Held}
 use Rattle.sl_key.specs.declared.key.Key.{Key}
 use Rattle.sl_key.specs.declared.key.Kind.{Kind}
 use Rattle.sl_key.specs.declared.key.Kind.TheVariants.{Syntax, Imports, Alias, Const}
-use Rattle.def_query.specs.Answer.{Answers}
 use Rattle.def_query.specs.Map.{get}
 use Rattle.def_query.specs.Settles.{Settled, Settles}
 use Rattle.def_query.specs.declared.step.Step.TheVariants as step

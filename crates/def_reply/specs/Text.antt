@@ -32,11 +32,12 @@ abbrev pub details : Reply → List ℕ
 details Made = []
 details (Failed diagnostics) = flat_map diagnostic_line diagnostics
 
--- the first line of a reply: the numbers of the caller and of its request, the request's word and the outcome
+-- the first line of a reply: the numbers of the caller and of its request, the request's word and
+-- the outcome
 abbrev pub head_line : ℕ → ℕ → Request → Reply → List ℕ
 head_line caller number request reply =
-    line (decimal caller
-    ++ (codes ":" ++ (decimal number ++ (codes " " ++ (word_of request ++ (codes " " ++ outcome reply))))))
+    line (decimal caller ++ (codes ":" ++ (decimal number
+    ++ (codes " " ++ (word_of request ++ (codes " " ++ outcome reply))))))
 
 -- the lines of a reply
 abbrev pub reply_text : ℕ → ℕ → Request × Reply → List ℕ
@@ -45,18 +46,20 @@ reply_text caller number (request, reply) = head_line caller number request repl
 -- the lines of a caller's replies
 abbrev pub caller_text : ℕ → List (Request × Reply) → List ℕ
 caller_text caller requests =
-    flat_map (λ (numbered : ℕ × (Request × Reply)). reply_text caller numbered.0 numbered.1) (enumerate_from 1 requests)
+    flat_map (λ (numbered : ℕ × (Request × Reply)). reply_text caller numbered.0 numbered.1)
+    (enumerate_from 1 requests)
 
 -- the lines of the replies of callers
 abbrev pub callers_text : List (List (Request × Reply)) → List ℕ
 callers_text callers =
-    flat_map (λ (numbered : ℕ × List (Request × Reply)). caller_text numbered.0 numbered.1) (enumerate_from 1 callers)
+    flat_map (λ (numbered : ℕ × List (Request × Reply)). caller_text numbered.0 numbered.1)
+    (enumerate_from 1 callers)
 
 -- The text of all replies: for each caller its requests with their replies, in order, and last how
 -- many queries were worked out.
 abbrev pub out_text : List (List (Request × Reply)) → ℕ → List ℕ
 out_text callers worked = callers_text callers ++ line (codes "worked " ++ decimal worked)
 
--- the text of one caller's one request
-abbrev pub only_text : Request → Reply → ℕ → List ℕ
-only_text request reply worked = out_text (((request, reply) ∷ []) ∷ []) worked
+-- one caller with one request and its reply
+abbrev pub only : Request → Reply → List (List (Request × Reply))
+only request reply = ((request, reply) ∷ []) ∷ []

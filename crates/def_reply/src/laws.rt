@@ -1,8 +1,8 @@
 //! Laws of the definitions.
 
-ghost use Rattle.def_reply.specs.Laws.{CulpritsAreBad, OneText};
+ghost use Rattle.def_reply.specs.Laws.{CulpritsAreBad, MadeOfGood, OneText};
 
-/// A request that is worked out alone has one text, over any sources.
+/// Callers with the same requests have one text, over any sources.
 pub fn one_text()
     ensures { OneText }
 {}
@@ -10,4 +10,9 @@ pub fn one_text()
 /// The culprit of a spoilt answer breaks a rule itself, so what it tells is told.
 pub fn culprits_are_bad()
     ensures { CulpritsAreBad }
+{}
+
+/// A module is told to be made exactly where it is there and all that is asked for it is good.
+pub fn made_of_good()
+    ensures { MadeOfGood }
 {}

@@ -51,4 +51,5 @@ Compiles entry text (Diagnostics lines) = LacksEntry entry text lines ⊎ IsNotB
 -- A text compiles to one thing at most.
 abbrev pub OneCompilation : Type 0
 OneCompilation =
-    (entry text : List ℕ) (one other : Compilation) → Compiles entry text one → Compiles entry text other → one ≡ other
+    (entry text : List ℕ) (one other : Compilation)
+    → Compiles entry text one → Compiles entry text other → one ≡ other

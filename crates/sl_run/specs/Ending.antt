@@ -1,7 +1,7 @@
 -- What the steps of a command say of the status that they end with.
 use Rattle.std.specs.Prelude.{◌≡◌, ℕ, ◌+◌, ◌<◌, Bool, true, false, List, IfSome, IsTrue, length}
-use Rattle.def_reply.specs.Text.{only_text}
-use Rattle.def_reply.specs.Worked.{IsWorked}
+use Rattle.def_reply.specs.Text.{only, out_text}
+use Rattle.def_reply.specs.Worked.{AreWorked}
 use Rattle.def_sources.specs.Limits.{most_bytes}
 use Rattle.def_sources.specs.Sources.{Sources}
 use Rattle.sl_base.specs.declared.diag.Diag.{Diag}
@@ -70,7 +70,8 @@ EndsDiagnostics ReadFault err lines = ⊥
 EndsDiagnostics (WriteFault n) err lines = IsWrittenInPart err lines n
 EndsDiagnostics NoMemory err lines = ⊥
 
--- how the writing of the text of a reply ends; the test tells whether the reply is without diagnostics
+-- how the writing of the text of a reply ends; the test tells whether the reply is without
+-- diagnostics
 abbrev pub EndsText : Status → Bool → Seen → Seen → List ℕ → Type 0
 EndsText Done made out err text = IsTrue made × IsWritten out text
 EndsText Diagnosed made out err text = (made ≡ false) × IsWritten out text
@@ -88,12 +89,13 @@ abbrev pub SomeReply : Bool → (Reply → Type 0) → Type 0
 SomeReply true Holds = Holds Made
 SomeReply false Holds = (diagnostics : List Diag) × Holds (Failed diagnostics)
 
--- Sources give this reply to one caller's one request for a module, and this is the text that tells it. One step was
--- counted for each key that the request comes to.
-pub record TellsReply (sources : Sources) (name text : List ℕ) (steps : Counted) (reply : Reply) : Type 0 where
+-- Sources give this reply to one caller's one request for a module, and this is the text that tells
+-- it. One step was counted for each key that the request comes to.
+pub record TellsReply (sources : Sources) (name text : List ℕ) (steps : Counted) (reply : Reply)
+    : Type 0 where
   pub keys : List Key
-  pub worked : IsWorked sources (load_of name) reply keys
-  pub told : text ≡ only_text (load_of name) reply (length keys)
+  pub worked : AreWorked sources (only (load_of name) reply) keys
+  pub told : text ≡ out_text (only (load_of name) reply) (length keys)
   pub rose : steps.now ≡ steps.before + length keys
 
 -- the same of a reply without diagnostics, or with some
@@ -102,4 +104,5 @@ Tells made sources name text steps = SomeReply made (TellsReply sources name tex
 
 -- the module was checked, with a reply without diagnostics, or with some
 abbrev pub IsCheckedTo : Bool → List ℕ → SeenRoots → Counted → List ℕ → Type 0
-IsCheckedTo made name roots steps text = SomeReply made (λ reply. IsChecked name roots steps reply text)
+IsCheckedTo made name roots steps text =
+    SomeReply made (λ reply. IsChecked name roots steps reply text)

@@ -1,5 +1,5 @@
--- The instructions of a module that writes one buffer, section by section (SPIR-V 1.5, 2.4, "Logical Layout of a
--- Module").
+-- The instructions of a module that writes one buffer, section by section
+-- (SPIR-V 1.5, 2.4, "Logical Layout of a Module").
 use Rattle.std.specs.Prelude.{ℕ, List, [], ◌∷◌, ◌++◌}
 use Rattle.def_slang.specs.BufferWrite.{BufferWrite}
 use Rattle.def_spirv.specs.Words.{Instruction, text_words}
@@ -22,7 +22,8 @@ memory_model = instruction op.memory_model (enumerant.logical ∷ enumerant.glsl
 -- the entry point, with its name and the variables that it uses
 abbrev pub entry_point : List ℕ → Instruction
 entry_point name =
-    instruction op.entry_point (enumerant.gl_compute ∷ id.ENTRY_POINT ∷ text_words name ++ id.DISPATCH_ID ∷ id.BUFFER ∷ [])
+    instruction op.entry_point
+    (enumerant.gl_compute ∷ id.ENTRY_POINT ∷ text_words name ++ id.DISPATCH_ID ∷ id.BUFFER ∷ [])
 
 -- the one entry point
 abbrev pub entry_points : BufferWrite → List Instruction
@@ -31,7 +32,8 @@ entry_points w = entry_point w.entry ∷ []
 -- the threads of a group
 abbrev pub execution_modes : BufferWrite → List Instruction
 execution_modes w =
-    instruction op.execution_mode (id.ENTRY_POINT ∷ enumerant.local_size ∷ w.threads.0 ∷ w.threads.1 ∷ w.threads.2 ∷ []) ∷ []
+    instruction op.execution_mode
+    (id.ENTRY_POINT ∷ enumerant.local_size ∷ w.threads.0 ∷ w.threads.1 ∷ w.threads.2 ∷ []) ∷ []
 
 -- the name of an id
 abbrev pub name_of : ℕ → List ℕ → Instruction
@@ -44,7 +46,8 @@ names w = name_of id.ENTRY_POINT w.entry ∷ name_of id.BUFFER w.buffer ∷ []
 -- which input the dispatch id is, where the buffer is bound, and how its elements lie
 abbrev pub decorations : List Instruction
 decorations =
-    instruction op.decorate (id.DISPATCH_ID ∷ enumerant.built_in ∷ enumerant.global_invocation_id ∷ [])
+    instruction op.decorate
+    (id.DISPATCH_ID ∷ enumerant.built_in ∷ enumerant.global_invocation_id ∷ [])
     ∷ instruction op.decorate (id.BUFFER ∷ enumerant.descriptor_set ∷ 0 ∷ [])
     ∷ instruction op.decorate (id.BUFFER ∷ enumerant.binding ∷ 0 ∷ [])
     ∷ instruction op.decorate (id.ARRAY ∷ enumerant.array_stride ∷ 4 ∷ [])
@@ -123,7 +126,8 @@ abbrev pub element_write : List Instruction
 element_write =
     instruction op.label (id.INNER ∷ [])
     ∷ instruction op.load (id.UINT ∷ id.INDEX ∷ id.INDEX_VARIABLE ∷ [])
-    ∷ instruction op.access_chain (id.INT_POINTER ∷ id.ELEMENT ∷ id.BUFFER ∷ id.ZERO ∷ id.INDEX ∷ [])
+    ∷ instruction op.access_chain
+    (id.INT_POINTER ∷ id.ELEMENT ∷ id.BUFFER ∷ id.ZERO ∷ id.INDEX ∷ [])
     ∷ instruction op.store (id.ELEMENT ∷ id.VALUE ∷ [])
     ∷ instruction op.branch (id.MERGE ∷ [])
     ∷ []
@@ -143,4 +147,5 @@ functions = function_head ++ index_read ++ bounds_test ++ element_write ++ funct
 -- all of them
 abbrev pub instructions_of : BufferWrite → List Instruction
 instructions_of w =
-    capabilities ++ memory_model ++ entry_points w ++ execution_modes w ++ names w ++ decorations ++ globals w ++ functions
+    capabilities ++ memory_model ++ entry_points w ++ execution_modes w ++ names w ++ decorations
+    ++ globals w ++ functions

@@ -32,7 +32,8 @@ pub record LosesCode (entry : List ℕ) (input out err : Seen) (n : ℕ) : Type 
   pub lost : IsWrittenInPart out bytes n
   pub reported : Reports (WriteFault n) err
 
--- as `WritesDiagnostics`, but of the diagnostics only the first n bytes were written, and no line follows
+-- as `WritesDiagnostics`, but of the diagnostics only the first n bytes were written, and no line
+-- follows
 pub record LosesDiagnostics (entry : List ℕ) (input out err : Seen) (n : ℕ) : Type 0 where
   pub text : List ℕ
   pub lines : List ℕ
@@ -52,5 +53,6 @@ EndsOne TooManyModules entry input out err = ⊥
 EndsOne (ModuleTooLarge name) entry input out err = ⊥
 EndsOne (SourceFault root name) entry input out err = ⊥
 EndsOne ReadFault entry input out err = HasFault input × Reports ReadFault err
-EndsOne (WriteFault n) entry input out err = LosesCode entry input out err n ⊎ LosesDiagnostics entry input out err n
+EndsOne (WriteFault n) entry input out err =
+    LosesCode entry input out err n ⊎ LosesDiagnostics entry input out err n
 EndsOne NoMemory entry input out err = Reports NoMemory err

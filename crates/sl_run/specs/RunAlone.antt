@@ -11,7 +11,8 @@ use Rattle.sl_run.specs.declared.status.Status.TheVariants.{Done, Diagnosed, Usa
 abbrev pub Ends : Status → Option Command → SeenRoots → Counted → Seen → Seen → Seen → Type 0
 Ends status None roots steps input out err = (status ≡ Usage) × Reports Usage err
 Ends status (Some (One entry)) roots steps input out err = EndsOne status entry input out err
-Ends status (Some (Check name)) roots steps input out err = EndsCheck status name roots steps out err
+Ends status (Some (Check name)) roots steps input out err =
+    EndsCheck status name roots steps out err
 
 -- the command reads the input
 abbrev pub reads_input : Option Command → Bool
@@ -31,7 +32,8 @@ tells_in_out None = false
 tells_in_out (Some (One entry)) = false
 tells_in_out (Some (Check name)) = true
 
--- whether nothing was written to the result's sink at this status; the test tells whether diagnostics go there
+-- whether nothing was written to the result's sink at this status; the test tells whether
+-- diagnostics go there
 abbrev pub leaves_out : Bool → Status → Bool
 leaves_out told Done = false
 leaves_out true Diagnosed = false

@@ -57,9 +57,11 @@ pub record IsWrittenInPart (object : Seen) (text : List ℕ) (n : ℕ) : Type 0 
 
 -- the status's line was written, or a first part of it where a fault is shown
 abbrev pub Reports : Status → Seen → Type 0
-Reports status err = IsWritten err (line_of status) ⊎ ((n : ℕ) × IsWrittenInPart err (line_of status) n)
+Reports status err =
+    IsWritten err (line_of status) ⊎ ((n : ℕ) × IsWrittenInPart err (line_of status) n)
 
--- The input was this text, to its end, and nothing of it is left. It has no more bytes than a module may have.
+-- The input was this text, to its end, and nothing of it is left. It has no more bytes than a
+-- module may have.
 pub record IsRead (input : Seen) (text : List ℕ) : Type 0 where
   pub short : length text ≤ most_bytes
   pub whole : IfSome input.before (λ left. (left ≡ text) × (input.now ≡ Some []))

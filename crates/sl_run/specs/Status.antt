@@ -29,9 +29,11 @@ line_of Diagnosed = []
 line_of Usage = line (codes "usage: slangrun one ENTRY | check MODULE")
 line_of InputTooLarge = line (codes "slangrun: limit: input is too large")
 line_of TooManyModules = line (codes "slangrun: limit: more than 256 modules")
-line_of (ModuleTooLarge name) = line (codes "slangrun: limit: module " ++ (name ++ codes " is too large"))
+line_of (ModuleTooLarge name) =
+    line (codes "slangrun: limit: module " ++ (name ++ codes " is too large"))
 line_of (SourceFault root name) =
-    line (codes "slangrun: root " ++ (decimal root ++ (codes " failed on " ++ (name ++ codes ".slang"))))
+    line (codes "slangrun: root " ++ (decimal root
+    ++ (codes " failed on " ++ (name ++ codes ".slang"))))
 line_of ReadFault = line (codes "slangrun: read failed")
 line_of (WriteFault written) = line (codes "slangrun: write failed")
 line_of NoMemory = line (codes "slangrun: out of memory")
