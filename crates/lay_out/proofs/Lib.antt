@@ -1,2 +1,3 @@
+pub mod Clashing
 pub mod Follows
 pub mod Shapes
