@@ -1,3 +1,5 @@
+pub mod Choosing
 pub mod Follows
 pub mod Passing
 pub mod Shapes
+pub mod Wants
