@@ -1,7 +1,7 @@
 -- Which bindings of set 0 buffers want, and how many slots they leave to choose.
-use Rattle.std.proofs.Common.{◌≡◌, ℕ, ◌+◌, ◌≤◌, zero, suc, Bool, true, false, cond, nat_eq, List, [], ◌∷◌, length, Option, Some, None, refl, sym, ap, ◌∙◌, subst, arith}
+use Rattle.std.proofs.Common.{◌≡◌, ℕ, ◌+◌, ◌≤◌, zero, suc, Bool, true, false, cond, nat_eq, List, [], ◌∷◌, length, Option, Some, None, refl, sym, ap, ◌∙◌, subst, arith, eq-eqb}
 use Rattle.std.specs.List.{Contains, cons_option, filter_map, slice_get}
-use Rattle.std.proofs.Common.{eqb→eq, eq-eqb}
+use Rattle.std.proofs.lemmas.Bool.{eqb-true}
 use Rattle.std.proofs.lemmas.Option.{same_Some}
 use Rattle.def_layout.specs.declared.slot.Slot.{Slot}
 use Rattle.def_layout.specs.declared.slot.Wanted.{Wanted}
@@ -50,7 +50,7 @@ at_head slot more fixed binding set rest (suc k, inside, is) = later (At slot) m
 at_either : (slot : Slot) (more : List Wanted) (fixed : List ℕ) (binding : ℕ) (b : Bool) → nat_eq slot.set 0 ≡ b
     → (Contains fixed binding → IsWanted more binding)
     → Contains (cons_option (cond b (Some slot.binding) None) fixed) binding → IsWanted (At slot ∷ more) binding
-at_either slot more fixed binding true set rest among = at_head slot more fixed binding (eqb→eq slot.set 0 set) rest among
+at_either slot more fixed binding true set rest among = at_head slot more fixed binding (eqb-true slot.set 0 set) rest among
 at_either slot more fixed binding false set rest among = later (At slot) more binding (rest among)
 
 -- each fixed binding is wanted
