@@ -62,6 +62,8 @@ impl Ord for Slot {
     ghost matches_eq = { Prim.search (comparing, rules) };
 
     fn cmp(&self, other: &Slot) -> Ordering {
-        self.set.cmp(&other.set).then(self.binding.cmp(&other.binding))
+        self.set
+            .cmp(&other.set)
+            .then(self.binding.cmp(&other.binding))
     }
 }

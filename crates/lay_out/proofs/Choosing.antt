@@ -2,15 +2,15 @@
 use Rattle.std.proofs.Common.{◌≡◌, ℕ, ◌+◌, ◌-◌, ◌<◌, ◌≤◌, ◌⊎◌, zero, suc, List, [], ◌∷◌, ◌++◌, length, Option, Some, None, inl, inr, ⊎_elim, refl, sym, ap, ◌∙◌, subst, arith, length-append}
 use Rattle.std.specs.List.{Contains, filter_map, slice_get}
 use Rattle.std.specs.List.Sorted.{IsPermutation}
-use Rattle.std.proofs.lemmas.Bool.{cases_lt, cases_eq}
+use Rattle.std.proofs.lemmas.Bool.{cases_lt}
 use Rattle.std.proofs.lemmas.List.Sorted.{Contains-permutation, IsPermutation-sym, length_permutation}
-use Rattle.std.proofs.lemmas.Option.{slice_get_within, slice_get_past, same_Some}
+use Rattle.std.proofs.lemmas.Option.{slice_get_within, same_Some}
 use Rattle.def_layout.specs.Binding.{AreBound, IsFirstFree, IsFree}
 use Rattle.def_layout.specs.declared.slot.Slot.{Slot}
 use Rattle.def_layout.specs.declared.slot.Wanted.{Wanted}
 use Rattle.def_layout.specs.declared.slot.Wanted.TheVariants.{Any, At}
-use Rattle.def_layout.proofs.Bound.{Agree, first_free_along}
-use Rattle.lay_out.proofs.Wants.{IsWanted, any_before, any_more, any_same, first_set, fixed_is_wanted, is_first_set, room_for_any, wanted_is_fixed}
+use Rattle.def_layout.proofs.Bound.{Agree, first_free_along, first_set, wants_some}
+use Rattle.lay_out.proofs.Wants.{any_before, any_more, any_same, fixed_is_wanted, room_for_any, wanted_is_fixed}
 use Rattle.lay_out.specs.Free.{IsReady, IsStart, Takes, fixed_binding}
 use Rattle.lay_out.specs.declared.free.Free.{Free}
 
@@ -25,11 +25,6 @@ pub get_last : (slots : List Slot) (slot : Slot) → slice_get (slots ++ slot �
 get_last [] slot = refl
 get_last (first ∷ more) slot = get_last more slot
 
-slice_get_some : (wanted : List Wanted) (number : ℕ) → number < length wanted → slice_get wanted number ≡ None → ⊥
-slice_get_some [] number within is = omega arith
-slice_get_some (this ∷ more) zero within is = cc
-slice_get_some (this ∷ more) (suc number) within is = slice_get_some more number (omega arith) is
-
 length_push : (slots : List Slot) (slot : Slot) → length (slots ++ slot ∷ []) ≡ suc (length slots)
 length_push slots slot = length-append slots (slot ∷ []) ∙ omega arith
 
@@ -42,11 +37,11 @@ get_cases slots last number slot is =
     ⊎_elim
     (λ (h : number < length slots). inl (h, sym (get_before slots last number h) ∙ is))
     (λ (h : length slots ≤ number).
-        let e : number ≡ length slots = omega arith in
-        inr (e, same_Some last slot (sym (get_last slots last) ∙ ap (slice_get (slots ++ last ∷ [])) (sym e) ∙ is)))
+    let e : number ≡ length slots = omega arith in
+    inr (e, same_Some last slot (sym (get_last slots last) ∙ ap (slice_get (slots ++ last ∷ [])) (sym e) ∙ is)))
     (cases_lt number (length slots))
 
--- this binding is fixed, or a buffer before was bound to it
+-- a buffer is bound to this binding of set 0
 pub record IsBoundBefore (slots : List Slot) (binding : ℕ) : Type 0 where
   pub earlier : ℕ
   pub is : slice_get slots earlier ≡ Some (first_set binding)
@@ -92,18 +87,18 @@ wanted_bound wanted slots free slot this before =
       wants = λ number other h is. ⊎_elim
           (λ (k : number < length slots). get_before slots slot number k ∙ before.wants number other k is)
           (λ (k : length slots ≤ number).
-              let e : number ≡ length slots = omega arith in
-              let one : slice_get wanted (length slots) ≡ Some (At other) = ap (slice_get wanted) (sym e) ∙ is in
-              let f : slot ≡ other = cc in
-              ap (slice_get (slots ++ slot ∷ [])) e ∙ get_last slots slot ∙ ap Some f)
+          let e : number ≡ length slots = omega arith in
+          let one : slice_get wanted (length slots) ≡ Some (At other) = ap (slice_get wanted) (sym e) ∙ is in
+          let f : slot ≡ other = cc in
+          ap (slice_get (slots ++ slot ∷ [])) e ∙ get_last slots slot ∙ ap Some f)
           (cases_lt number (length slots));
       first = λ number other is got. ⊎_elim
           (λ (k : (number < length slots) × (slice_get slots number ≡ Some other)).
-              let p = before.first number other is k.1 in
-              (first_free_along wanted slots (slots ++ slot ∷ []) number other (agree_pushed slots slot number (let h = k.0 in omega arith)) p.0, p.1))
+          let p = before.first number other is k.1 in
+          (first_free_along wanted slots (slots ++ slot ∷ []) number other (agree_pushed slots slot number (let h = k.0 in omega arith)) p.0, p.1))
           (λ (k : (number ≡ length slots) × (slot ≡ other)).
-              let one : slice_get wanted number ≡ Some (At slot) = ap (slice_get wanted) k.0 ∙ this in
-              absurd cc)
+          let one : slice_get wanted number ≡ Some (At slot) = ap (slice_get wanted) k.0 ∙ this in
+          absurd cc)
           (get_cases slots slot number other got);
       covered = λ binding h. ⊎_elim
           (λ (k : Contains free.fixed.items binding). inl k)
@@ -119,7 +114,7 @@ not_bound_by : (wanted : List Wanted) (slots : List Slot) (free : Free) (binding
     → length slots ≤ length wanted → free.next ≤ binding → IsUnwanted wanted binding
     → (earlier : ℕ) (this : Option Wanted) → slice_get wanted earlier ≡ this → earlier < length slots
     → slice_get slots earlier ≡ Some (first_set binding) → ⊥
-not_bound_by wanted slots free binding before within from unwanted earlier None is h got = slice_get_some wanted earlier (omega arith) is
+not_bound_by wanted slots free binding before within from unwanted earlier None is h got = wants_some wanted earlier (omega arith) is
 not_bound_by wanted slots free binding before within from unwanted earlier (Some Any) is h got =
     let p = (before.first earlier (first_set binding) is got).1 in omega arith
 not_bound_by wanted slots free binding before within from unwanted earlier (Some (At slot)) is h got =
@@ -161,12 +156,12 @@ taken_is_first wanted slots old new binding within before takes =
           let unfixed : Contains old.fixed.items other → ⊥ = unfixed_if_free wanted slots old.fixed.items (length slots) other before.fixed free in
           ⊎_elim
           (λ (h : other < binding). ⊎_elim
-              (λ (k : other < old.next). ⊎_elim
-                  (λ (among : Contains old.fixed.items other). absurd (unfixed among))
-                  (λ (b : IsBoundBefore slots other). absurd (free.unbound b.earlier (slice_get_within slots b.earlier (first_set other) b.is) b.is))
-                  (before.covered other k))
-              (λ (k : old.next ≤ other). absurd (unfixed (takes.first other k h)))
-              (cases_lt other old.next))
+          (λ (k : other < old.next). ⊎_elim
+          (λ (among : Contains old.fixed.items other). absurd (unfixed among))
+          (λ (b : IsBoundBefore slots other). absurd (free.unbound b.earlier (slice_get_within slots b.earlier (first_set other) b.is) b.is))
+          (before.covered other k))
+          (λ (k : old.next ≤ other). absurd (unfixed (takes.first other k h)))
+          (cases_lt other old.next))
           (λ (h : binding ≤ other). h)
           (cases_lt other binding);
     }
@@ -189,33 +184,33 @@ any_bound wanted slots old new binding this before takes =
       wants = λ number other h is. ⊎_elim
           (λ (k : number < length slots). get_before slots slot number k ∙ before.wants number other k is)
           (λ (k : length slots ≤ number).
-              let e : number ≡ length slots = omega arith in
-              let one : slice_get wanted number ≡ Some Any = ap (slice_get wanted) e ∙ this in
-              absurd cc)
+          let e : number ≡ length slots = omega arith in
+          let one : slice_get wanted number ≡ Some Any = ap (slice_get wanted) e ∙ this in
+          absurd cc)
           (cases_lt number (length slots));
       first = λ number other is got. ⊎_elim
           (λ (k : (number < length slots) × (slice_get slots number ≡ Some other)).
-              let p = before.first number other is k.1 in
-              let low : other.binding < new.next = (let q = p.1 in let f = takes.from in let n = takes.next in omega arith) in
-              (first_free_along wanted slots pushed number other (agree_pushed slots slot number (let h = k.0 in omega arith)) p.0, low))
+          let p = before.first number other is k.1 in
+          let low : other.binding < new.next = (let q = p.1 in let f = takes.from in let n = takes.next in omega arith) in
+          (first_free_along wanted slots pushed number other (agree_pushed slots slot number (let h = k.0 in omega arith)) p.0, low))
           (λ (k : (number ≡ length slots) × (slot ≡ other)).
-              let f = first_free_along wanted slots pushed (length slots) slot (agree_pushed slots slot (length slots) (omega arith))
-                  (taken_is_first wanted slots old new binding (omega arith) before takes) in
-              let low : binding < new.next = (let n = takes.next in omega arith) in
-              subst (λ (s : Slot). IsFirstFree wanted pushed number s × (s.binding < new.next)) k.1
-              (subst (λ n. IsFirstFree wanted pushed n slot) (sym k.0) f, low))
+          let f = first_free_along wanted slots pushed (length slots) slot (agree_pushed slots slot (length slots) (omega arith))
+          (taken_is_first wanted slots old new binding (omega arith) before takes) in
+          let low : binding < new.next = (let n = takes.next in omega arith) in
+          subst (λ (s : Slot). IsFirstFree wanted pushed number s × (s.binding < new.next)) k.1
+          (subst (λ n. IsFirstFree wanted pushed n slot) (sym k.0) f, low))
           (get_cases slots slot number other got);
       covered = λ other h. ⊎_elim
           (λ (k : other < old.next). ⊎_elim
-              (λ (among : Contains old.fixed.items other). inl (subst (λ l. Contains l other) (sym takes.same) among))
-              (λ (b : IsBoundBefore slots other). inr (bound_before slots slot other b))
-              (before.covered other k))
+          (λ (among : Contains old.fixed.items other). inl (subst (λ l. Contains l other) (sym takes.same) among))
+          (λ (b : IsBoundBefore slots other). inr (bound_before slots slot other b))
+          (before.covered other k))
           (λ (k : old.next ≤ other). ⊎_elim
-              (λ (l : other < binding). inl (subst (λ l. Contains l other) (sym takes.same) (takes.first other k l)))
-              (λ (l : binding ≤ other).
-                  let e : binding ≡ other = (let n = takes.next in omega arith) in
-                  inr (record { earlier = length slots; is = get_last slots slot ∙ ap (λ b. Some (first_set b)) e }))
-              (cases_lt other binding))
+          (λ (l : other < binding). inl (subst (λ l. Contains l other) (sym takes.same) (takes.first other k l)))
+          (λ (l : binding ≤ other).
+          let e : binding ≡ other = (let n = takes.next in omega arith) in
+          inr (record { earlier = length slots; is = get_last slots slot ∙ ap (λ b. Some (first_set b)) e }))
+          (cases_lt other binding))
           (cases_lt other old.next);
     }
 

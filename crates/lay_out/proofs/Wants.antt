@@ -6,14 +6,8 @@ use Rattle.std.proofs.lemmas.Option.{same_Some}
 use Rattle.def_layout.specs.declared.slot.Slot.{Slot}
 use Rattle.def_layout.specs.declared.slot.Wanted.{Wanted}
 use Rattle.def_layout.specs.declared.slot.Wanted.TheVariants.{Any, At}
+use Rattle.def_layout.proofs.Bound.{first_set, is_first_set}
 use Rattle.lay_out.specs.Free.{fixed_binding}
-
--- the slot of set 0 with this binding
-abbrev pub first_set : ℕ → Slot
-first_set binding = record { set = 0; binding = binding }
-
-pub is_first_set : (slot : Slot) (binding : ℕ) → slot.set ≡ 0 → slot.binding ≡ binding → slot ≡ first_set binding
-is_first_set slot binding set is = ap (λ n. record { set = n; binding = slot.binding }) set ∙ ap (λ n. record { set = 0; binding = n }) is
 
 -- one of the further ones is one of all
 behind : (first : Option ℕ) (xs : List ℕ) (x : ℕ) → Contains xs x → Contains (cons_option first xs) x

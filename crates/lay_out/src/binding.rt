@@ -63,7 +63,10 @@ fn free_of(alloc: Global, wanted: &[Wanted]) -> Result<Free, NoMemory>
 fn fixed_bindings(alloc: Global, wanted: &[Wanted]) -> Result<Vec<u32>, AllocError>
     ensures { IfOk result (λ fixed. fixed.items ≡ filter_map fixed_binding wanted.now) }
 {
-    wanted.iter().filter_map(|this| fixed_binding(*this)).collect(alloc)
+    wanted
+        .iter()
+        .filter_map(|this| fixed_binding(*this))
+        .collect(alloc)
 }
 
 // The binding of set 0 that a buffer wants.

@@ -40,12 +40,12 @@ loop-this-preserved c =
     let count : length c.push.new.self ≡ index + 1 =
     ap length pushed ∙ length-append slots (c.match-this.slot ∷ []) ∙ (let e = before.count in omega arith) in
     let so_far : AreBoundSoFar wanted (slots ++ c.match-this.slot ∷ []) c.match-this.free = elim c.match-this.branch [
-      in-At w ↦ at_same wanted slots c.match-this.slot w.in-At.slot c.match-this.free c.loop-this.free w.slot-is w.free-is
-      (wanted_bound wanted slots c.loop-this.free w.in-At.slot
-      (next_is wanted slots index Any (At w.in-At.slot) before.count c.loop-this-test.true w.in-At.is) before.so_far)
-    | in-Any w ↦ at_same wanted slots c.match-this.slot _ c.match-this.free w.take.new.self w.slot-is w.free-is
-      (any_bound wanted slots c.loop-this.free w.take.new.self w.take.result
-      (next_is wanted slots index Any Any before.count c.loop-this-test.true w.in-Any.is) before.so_far w.take.ensures)
+      | in-At w ↦ at_same wanted slots c.match-this.slot w.in-At.slot c.match-this.free c.loop-this.free w.slot-is w.free-is
+          (wanted_bound wanted slots c.loop-this.free w.in-At.slot
+          (next_is wanted slots index Any (At w.in-At.slot) before.count c.loop-this-test.true w.in-At.is) before.so_far)
+      | in-Any w ↦ at_same wanted slots c.match-this.slot _ c.match-this.free w.take.new.self w.slot-is w.free-is
+          (any_bound wanted slots c.loop-this.free w.take.new.self w.take.result
+          (next_is wanted slots index Any Any before.count c.loop-this-test.true w.in-Any.is) before.so_far w.take.ensures)
     ] in
     record { so_far = subst (λ (l : List Slot). AreBoundSoFar wanted l c.match-this.free) (sym pushed) so_far; count = count }
 
