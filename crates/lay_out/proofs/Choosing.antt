@@ -56,16 +56,6 @@ pub record AreBoundSoFar (wanted : List Wanted) (slots : List Slot) (free : Free
       → IsFirstFree wanted slots number slot × (slot.binding < free.next)
   pub covered : (binding : ℕ) → binding < free.next → Contains free.fixed.items binding ⊎ IsBoundBefore slots binding
 
-pub none_bound : (wanted : List Wanted) (free : Free) → IsStart wanted free → AreBoundSoFar wanted [] free
-none_bound wanted free start = record {
-  ready = start.ready;
-  fixed = start.fixed;
-  spends = (let p = start.start in omega arith);
-  wants = λ number slot h is. absurd (omega arith);
-  first = λ number slot is got. absurd cc;
-  covered = λ binding h. let p = start.start in absurd (omega arith);
-}
-
 agree_pushed : (slots : List Slot) (slot : Slot) (number : ℕ) → number ≤ length slots → Agree slots (slots ++ slot ∷ []) number
 agree_pushed slots slot number h = record { same = λ earlier k. sym (get_before slots slot earlier (omega arith)) }
 

@@ -18,17 +18,6 @@ pub record IsPassing (old : Free) (items : List ℕ) (passed next : ℕ) : Type 
   pub first : (other : ℕ) → other < next → old.next ≤ other → Contains items other
   pub spends : next + (length items - passed) ≤ old.next + (length old.fixed.items - old.passed)
 
-pub passing_none : (old : Free) → IsReady old → IsPassing old old.fixed.items old.passed old.next
-passing_none old ready = record {
-  same = refl;
-  rises = ready.rises;
-  below = ready.below;
-  within = ready.within;
-  from = omega arith;
-  first = λ other low high. absurd (omega arith);
-  spends = omega arith;
-}
-
 -- one that is below the next one is passed
 pub passing_below : (old : Free) (items : List ℕ) (passed next : ℕ) → passed < length items → get_or items passed 0 < next
     → IsPassing old items passed next → IsPassing old items (passed + 1) next
