@@ -1,9 +1,10 @@
 -- What follows from the rules of layouts and of bindings.
-use Rattle.std.specs.Prelude.{◌≡◌, ℕ, ◌+◌, ◌*◌, ◌≤◌, List, All, AllPairs}
-use Rattle.def_layout.specs.Binding.{IsFirstClash}
+use Rattle.std.specs.Prelude.{◌≡◌, ◌≢◌, ℕ, ◌+◌, ◌*◌, ◌≤◌, List, All, AllPairs}
+use Rattle.def_layout.specs.Binding.{AreBound, HasNoClash, IsFirstClash}
 use Rattle.def_layout.specs.Shape.{bytes, Shape}
 use Rattle.def_layout.specs.declared.laid.Laid.{Laid}
 use Rattle.def_layout.specs.declared.laid.Leaf.{Leaf}
+use Rattle.def_layout.specs.declared.slot.Slot.{Slot}
 use Rattle.def_layout.specs.declared.slot.Wanted.{Wanted}
 use Rattle.def_layout.specs.Std430.{IsMultiple, IsLaidOut}
 
@@ -56,3 +57,13 @@ abbrev pub FirstClashIsDetermined : Type 0
 FirstClashIsDetermined = (wanted : List Wanted) (first second other last : ℕ)
     → IsFirstClash wanted first second → IsFirstClash wanted other last
     → (first ≡ other) × (second ≡ last)
+
+-- what buffers want determines their slots
+abbrev pub SlotsAreDetermined : Type 0
+SlotsAreDetermined = (wanted : List Wanted) (one other : List Slot)
+    → AreBound wanted one → AreBound wanted other → one ≡ other
+
+-- where no two buffers want one slot, no two are bound to one
+abbrev pub SlotsAreDistinct : Type 0
+SlotsAreDistinct = (wanted : List Wanted) (slots : List Slot)
+    → HasNoClash wanted → AreBound wanted slots → AllPairs (λ one later. one ≢ later) slots

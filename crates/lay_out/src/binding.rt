@@ -10,7 +10,7 @@ use crate::clash::{BindRefusal, refuse_clash};
 use crate::free::Free;
 use def_layout::{Slot, Wanted};
 use sl_base::{List, NoMemory};
-use std::alloc::Global;
+use std::alloc::{AllocError, Global};
 
 /// The slots to which buffers are bound, in order: each to the one that it wants, and where it wants none, to set 0 and
 /// the least binding that no buffer wants there and none before it got. There are fewer than 2 to the 32 buffers.
@@ -50,13 +50,23 @@ fn slots_of(alloc: Global, wanted: &[Wanted]) -> Result<List<Slot>, NoMemory>
 fn free_of(alloc: Global, wanted: &[Wanted]) -> Result<Free, NoMemory>
     ensures { IfOk result (IsStart wanted.now) }
 {
-    let mut fixed: Vec<u32> = wanted.iter().filter_map(|this| fixed_binding(*this)).collect(alloc)?;
+    let mut fixed = fixed_bindings(alloc, wanted)?;
     fixed.sort()?;
     Ok(Free {
         fixed,
         passed: 0,
         next: 0,
     })
+}
+
+// The bindings of set 0 that buffers want, in order.
+fn fixed_bindings(alloc: Global, wanted: &[Wanted]) -> Result<Vec<u32>, AllocError>
+    ensures { IfOk result (λ fixed. fixed.items ≡ filter_map fixed_binding wanted.now) }
+{
+    wanted
+        .iter()
+        .filter_map(|this| fixed_binding(*this))
+        .collect(alloc)
 }
 
 // The binding of set 0 that a buffer wants.
