@@ -1,8 +1,11 @@
--- What follows from the rules of layouts.
-use Rattle.std.specs.Prelude.{◌≡◌, ℕ, ◌+◌, ◌*◌, ◌≤◌, All, AllPairs}
+-- What follows from the rules of layouts and of bindings.
+use Rattle.std.specs.Prelude.{◌≡◌, ◌≢◌, ℕ, ◌+◌, ◌*◌, ◌≤◌, List, All, AllPairs}
+use Rattle.def_layout.specs.Binding.{AreBound, HasNoClash, IsFirstClash}
 use Rattle.def_layout.specs.Shape.{bytes, Shape}
 use Rattle.def_layout.specs.declared.laid.Laid.{Laid}
 use Rattle.def_layout.specs.declared.laid.Leaf.{Leaf}
+use Rattle.def_layout.specs.declared.slot.Slot.{Slot}
+use Rattle.def_layout.specs.declared.slot.Wanted.{Wanted}
 use Rattle.def_layout.specs.Std430.{IsMultiple, IsLaidOut}
 
 -- the byte at which a number ends
@@ -48,3 +51,19 @@ pub record HasLeastStride (laid : Laid) : Type 0 where
 -- strides hold all numbers of an element, and no more than the alignment asks
 abbrev pub StridesHoldAll : Type 0
 StridesHoldAll = (shape : Shape) (laid : Laid) → IsLaidOut shape laid → HasLeastStride laid
+
+-- buffers have one first clash at most
+abbrev pub FirstClashIsDetermined : Type 0
+FirstClashIsDetermined = (wanted : List Wanted) (first second other last : ℕ)
+    → IsFirstClash wanted first second → IsFirstClash wanted other last
+    → (first ≡ other) × (second ≡ last)
+
+-- what buffers want determines their slots
+abbrev pub SlotsAreDetermined : Type 0
+SlotsAreDetermined = (wanted : List Wanted) (one other : List Slot)
+    → AreBound wanted one → AreBound wanted other → one ≡ other
+
+-- where no two buffers want one slot, no two are bound to one
+abbrev pub SlotsAreDistinct : Type 0
+SlotsAreDistinct = (wanted : List Wanted) (slots : List Slot)
+    → HasNoClash wanted → AreBound wanted slots → AllPairs (λ one later. one ≢ later) slots

@@ -1,3 +1,5 @@
-pub mod Shape
-pub mod Std430
+pub mod Binding
 pub mod Laws
+pub mod Shape
+pub mod Slots
+pub mod Std430

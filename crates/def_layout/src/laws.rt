@@ -1,6 +1,7 @@
-//! Laws: that elements have one layout, in which their numbers stand apart, aligned and inside.
+//! Laws: that elements have one layout, in which their numbers stand apart, aligned and inside; that buffers have one
+//! binding, in which no two share a slot, and one first clash.
 
-ghost use Rattle.def_layout.specs.Laws.{LayoutsAreDetermined, ShapesAreLaidOut, LeavesAreApart, LeavesLieInside, LeavesAreAligned, StridesHoldAll};
+ghost use Rattle.def_layout.specs.Laws.{LayoutsAreDetermined, ShapesAreLaidOut, LeavesAreApart, LeavesLieInside, LeavesAreAligned, StridesHoldAll, SlotsAreDetermined, SlotsAreDistinct, FirstClashIsDetermined};
 
 /// A shape has one layout at most.
 pub fn layouts_are_determined()
@@ -30,4 +31,19 @@ pub fn leaves_are_aligned()
 /// The stride is the least multiple of the alignment that holds all numbers.
 pub fn strides_hold_all()
     ensures { StridesHoldAll }
+{}
+
+/// Of buffers that want slots there is one first clash at most.
+pub fn first_clash_is_determined()
+    ensures { FirstClashIsDetermined }
+{}
+
+/// What buffers want determines their slots.
+pub fn slots_are_determined()
+    ensures { SlotsAreDetermined }
+{}
+
+/// Where no two buffers want one slot, no two are bound to one.
+pub fn slots_are_distinct()
+    ensures { SlotsAreDistinct }
 {}

@@ -6,6 +6,8 @@
 mod laid;
 pub mod laws;
 mod scalar;
+mod slot;
 
 pub use laid::{Laid, Leaf};
 pub use scalar::Scalar;
+pub use slot::{Slot, Wanted};

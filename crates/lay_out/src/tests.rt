@@ -1,8 +1,9 @@
-ghost use Rattle.std.specs.Prelude.{◌≡◌, IfOk};
+ghost use Rattle.std.specs.Prelude.{◌≡◌, ◌^◌, ◌<◌, IfOk, length};
 ghost use Rattle.lay_out.specs.View.{shape_in};
 ghost use Rattle.lay_out.specs.Samples.{nested, pair};
 
-use crate::{Scalar, Shape, layout};
+use crate::{BindRefusal, Scalar, Shape, Slot, Wanted, bind, layout};
+use sl_base::List;
 use sqlite_items::Items;
 use std::alloc::Global;
 use std::process::Abort;
@@ -45,4 +46,69 @@ fn pair_shape(alloc: Global) -> Result<Shape, Fail>
 {
     let fields = vec![in alloc; Shape::Uint, Shape::Uint]?;
     Ok(Shape::Fields(Items::from_vec(fields)))
+}
+
+#[test]
+fn buffers_are_bound_to_the_first_slots_that_are_free(rt: HostRuntime) -> Result<(), Fail> {
+    let none = bound(rt.alloc(), &[]);
+    assert!(rt; is_bound_to(none, &[]));
+    let between = bound(rt.alloc(), &[Wanted::Any, at(0, 1), Wanted::Any]);
+    assert!(rt; is_bound_to(between, &[slot(0, 0), slot(0, 1), slot(0, 2)]));
+    let later = [Wanted::Any, Wanted::Any, at(0, 0), at(0, 2), Wanted::Any];
+    let later_slots = [slot(0, 1), slot(0, 3), slot(0, 0), slot(0, 2), slot(0, 4)];
+    assert!(rt; is_bound_to(bound(rt.alloc(), &later), &later_slots));
+    let other_sets = [at(1, 0), Wanted::Any, at(0, 1), at(1, 1), Wanted::Any];
+    let other_slots = [slot(1, 0), slot(0, 0), slot(0, 1), slot(1, 1), slot(0, 2)];
+    assert!(rt; is_bound_to(bound(rt.alloc(), &other_sets), &other_slots));
+    let falling = [at(0, 2), at(0, 1), Wanted::Any, Wanted::Any];
+    let falling_slots = [slot(0, 2), slot(0, 1), slot(0, 0), slot(0, 3)];
+    assert!(rt; is_bound_to(bound(rt.alloc(), &falling), &falling_slots));
+    Ok(())
+}
+
+#[test]
+fn the_first_buffer_that_wants_a_slot_again_is_told(rt: HostRuntime) {
+    let two = bound(rt.alloc(), &[at(0, 0), at(0, 0)]);
+    assert!(rt; is_clash(two, 0, 1));
+    let nested = bound(rt.alloc(), &[at(0, 0), at(0, 1), at(0, 1), at(0, 0)]);
+    assert!(rt; is_clash(nested, 1, 2));
+    let three = bound(
+        rt.alloc(),
+        &[Wanted::Any, at(1, 3), at(0, 3), at(1, 3), at(1, 3)],
+    );
+    assert!(rt; is_clash(three, 1, 3));
+}
+
+// The slots of buffers.
+fn bound(alloc: Global, wanted: &[Wanted]) -> Result<List<Slot>, BindRefusal>
+    requires { length wanted.now < 2 ^ 32 }
+{
+    let params = List::from_slice(alloc, wanted)?;
+    bind(alloc, &params)
+}
+
+// Whether these slots were answered.
+fn is_bound_to(answer: Result<List<Slot>, BindRefusal>, slots: &[Slot]) -> bool {
+    match answer {
+        Ok(bound) => bound.as_slice() == slots,
+        Err(_) => false,
+    }
+}
+
+// Whether the clash of two buffers was answered.
+fn is_clash(answer: Result<List<Slot>, BindRefusal>, first: u32, second: u32) -> bool {
+    match answer {
+        Ok(_) => false,
+        Err(refusal) => refusal == BindRefusal::Clash { first, second },
+    }
+}
+
+// A buffer that wants a slot.
+fn at(set: u32, binding: u32) -> Wanted {
+    Wanted::At(slot(set, binding))
+}
+
+// A slot.
+fn slot(set: u32, binding: u32) -> Slot {
+    Slot { set, binding }
 }
