@@ -1,6 +1,7 @@
 pub mod Aligned
 pub mod Apart
 pub mod Bound
+pub mod Clashes
 pub mod Determined
 pub mod Existing
 pub mod Inside

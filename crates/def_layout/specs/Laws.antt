@@ -1,6 +1,6 @@
 -- What follows from the rules of layouts and of bindings.
 use Rattle.std.specs.Prelude.{◌≡◌, ◌≢◌, ℕ, ◌+◌, ◌*◌, ◌≤◌, List, All, AllPairs}
-use Rattle.def_layout.specs.Binding.{AreBound, HasNoClash}
+use Rattle.def_layout.specs.Binding.{AreBound, HasNoClash, IsFirstClash}
 use Rattle.def_layout.specs.Shape.{bytes, Shape}
 use Rattle.def_layout.specs.declared.laid.Laid.{Laid}
 use Rattle.def_layout.specs.declared.laid.Leaf.{Leaf}
@@ -61,3 +61,9 @@ SlotsAreDetermined = (wanted : List Wanted) (one other : List Slot)
 abbrev pub SlotsAreDistinct : Type 0
 SlotsAreDistinct = (wanted : List Wanted) (slots : List Slot)
     → HasNoClash wanted → AreBound wanted slots → AllPairs (λ one later. one ≢ later) slots
+
+-- buffers have one first clash at most
+abbrev pub FirstClashIsDetermined : Type 0
+FirstClashIsDetermined = (wanted : List Wanted) (first second other last : ℕ)
+    → IsFirstClash wanted first second → IsFirstClash wanted other last
+    → (first ≡ other) × (second ≡ last)

@@ -1,6 +1,5 @@
 -- The order of slots.
 use Rattle.std.specs.Ordering.{nat_cmp, on, then_cmp}
-use Rattle.std.specs.Ordering.{nat_cmp}
 use Rattle.std.specs.declared.cmp.Ordering.{Ordering}
 use Rattle.def_layout.specs.declared.slot.Slot.{Slot}
 

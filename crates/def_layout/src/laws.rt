@@ -1,7 +1,7 @@
 //! Laws: that elements have one layout, in which their numbers stand apart, aligned and inside; and that buffers have one
-//! binding, in which no two share a slot.
+//! first clash at most, and one binding, in which no two share a slot.
 
-ghost use Rattle.def_layout.specs.Laws.{LayoutsAreDetermined, ShapesAreLaidOut, LeavesAreApart, LeavesLieInside, LeavesAreAligned, StridesHoldAll, SlotsAreDetermined, SlotsAreDistinct};
+ghost use Rattle.def_layout.specs.Laws.{LayoutsAreDetermined, ShapesAreLaidOut, LeavesAreApart, LeavesLieInside, LeavesAreAligned, StridesHoldAll, SlotsAreDetermined, SlotsAreDistinct, FirstClashIsDetermined};
 
 /// A shape has one layout at most.
 pub fn layouts_are_determined()
@@ -41,4 +41,9 @@ pub fn slots_are_determined()
 /// Where no two buffers want one slot, no two are bound to one.
 pub fn slots_are_distinct()
     ensures { SlotsAreDistinct }
+{}
+
+/// Of buffers that want slots there is one first clash at most.
+pub fn first_clash_is_determined()
+    ensures { FirstClashIsDetermined }
 {}

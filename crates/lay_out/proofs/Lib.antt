@@ -1,4 +1,5 @@
 pub mod Choosing
+pub mod Clashing
 pub mod Follows
 pub mod Passing
 pub mod Shapes

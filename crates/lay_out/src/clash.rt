@@ -1,10 +1,12 @@
 //! Buffers that want one slot.
 
-ghost use Rattle.std.specs.Prelude.{◌≡◌, ◌^◌, ◌<◌, IfErr, OnOk, length};
+ghost use Rattle.std.specs.Prelude.{◌≡◌, ◌^◌, ◌<◌, IfErr, IfOk, OnOk, Some, length};
+ghost use Rattle.std.specs.BTreeMap.{Updates, get};
 ghost use Rattle.def_layout.specs.Binding.{HasNoClash};
+ghost use Rattle.def_layout.specs.Slots.{slot_cmp};
 ghost use Rattle.lay_out.specs.Clash.{Tells};
 
-use def_layout::Wanted;
+use def_layout::{Slot, Wanted};
 use sl_base::NoMemory;
 use std::alloc::Global;
 use std::collections::BTreeMap;
@@ -30,6 +32,9 @@ impl From<NoMemory> for BindRefusal {
     }
 }
 
+/// The slots that the first buffers want, and the number of the buffer that wants each.
+type Seen = BTreeMap<Slot, u32>;
+
 /// Looks for the first buffer that wants the slot of one before it.
 pub fn refuse_clash(alloc: Global, wanted: &[Wanted]) -> Result<(), BindRefusal>
     requires { length wanted.now < 2 ^ 32 }
@@ -38,12 +43,20 @@ pub fn refuse_clash(alloc: Global, wanted: &[Wanted]) -> Result<(), BindRefusal>
 {
     let mut seen = BTreeMap::new(alloc);
     for (number, this) in wanted.iter().enumerate() {
-        let second = number as u32;
-        if let Wanted::At(slot) = this {
-            if let Some(first) = seen.insert(*slot, second).map_err(|_| NoMemory)? {
+        if let Wanted::At(slot) = *this {
+            let second = number as u32;
+            if let Some(first) = put(&mut seen, slot, second)? {
                 return Err(BindRefusal::Clash { first, second });
             }
         }
     }
     Ok(())
+}
+
+// Puts a number at a slot, and tells the one that was there.
+fn put(seen: &mut Seen, slot: Slot, number: u32) -> Result<Option<u32>, NoMemory>
+    ensures old { IfOk result (λ old. old ≡ get slot_cmp seen.old slot) }
+    ensures updates { OnOk result (Updates slot_cmp seen.old seen.new slot (Some number)) }
+{
+    Ok(seen.insert(slot, number)?)
 }
