@@ -21,7 +21,8 @@ pub record IsFirstClash (wanted : List Wanted) (first second : ℕ) : Type 0 whe
   pub least : (one later : ℕ) (other : Slot) → WantBoth wanted one later other → second ≤ later
 
 -- no buffer wants this slot, and none before the one of a number is bound to it
-pub record IsFree (wanted : List Wanted) (slots : List Slot) (number : ℕ) (slot : Slot) : Type 0 where
+pub record IsFree (wanted : List Wanted) (slots : List Slot) (number : ℕ) (slot : Slot)
+    : Type 0 where
   pub unwanted : (other : ℕ) → slice_get wanted other ≢ Some (At slot)
   pub unbound : (earlier : ℕ) → earlier < number → slice_get slots earlier ≢ Some slot
 

@@ -11,7 +11,7 @@ use Rattle.def_layout.specs.declared.slot.Wanted.{Wanted}
 use Rattle.def_layout.specs.declared.slot.Wanted.TheVariants.{Any, At}
 use Rattle.def_layout.proofs.Bound.{Agree, first_free_along, first_set, wants_some}
 use Rattle.lay_out.proofs.Wants.{any_before, any_more, any_same, fixed_is_wanted, room_for_any, wanted_is_fixed}
-use Rattle.lay_out.specs.Free.{IsReady, IsStart, Takes, fixed_binding}
+use Rattle.lay_out.specs.Free.{IsReady, Takes, fixed_binding}
 use Rattle.lay_out.specs.declared.free.Free.{Free}
 
 -- one more slot stands behind the others

@@ -1,11 +1,11 @@
 -- What is known of the bindings that are not free while those below the next one are passed.
-use Rattle.std.proofs.Common.{◌≡◌, ℕ, ◌+◌, ◌-◌, ◌<◌, ◌≤◌, List, length, get_or, refl, arith, subst, below_more, ⊎_elim}
+use Rattle.std.proofs.Common.{◌≡◌, ℕ, ◌+◌, ◌-◌, ◌<◌, ◌≤◌, List, length, get_or, arith, subst, below_more, ⊎_elim}
 use Rattle.std.specs.List.{Contains}
 use Rattle.std.specs.List.Sorted.{IsNonDecreasing}
 use Rattle.std.proofs.lemmas.Bool.{cases_lt}
 use Rattle.std.proofs.lemmas.List.{get_or_default}
 use Rattle.std.proofs.lemmas.List.Elements.{Contains-get_or}
-use Rattle.lay_out.specs.Free.{IsReady, Takes}
+use Rattle.lay_out.specs.Free.{Takes}
 use Rattle.lay_out.specs.declared.free.Free.{Free}
 
 -- those before one place are passed, and each number from where it began up to the next one is among all
