@@ -1,6 +1,7 @@
 //! What lies behind the lock of a session, and what is done to it in one turn.
 #![tactic(auto)]
 
+pub mod laws;
 mod shared;
 mod works;
 
