@@ -7,3 +7,6 @@ mod works;
 
 pub use shared::Shared;
 pub use works::{Abandons, Asks, Looks, Publishes, Reply};
+
+#[cfg(test)]
+mod tests;
