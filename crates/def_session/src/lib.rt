@@ -1,5 +1,4 @@
-//! Definitions of sessions: what a session is about, what each of its callers knows, and what a call of a
-//! caller does to it.
+//! Definitions of sessions: what a session is about, and what each of its callers knows of itself.
 #![tactic(auto)]
 
 mod subject;
