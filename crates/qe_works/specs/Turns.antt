@@ -13,8 +13,8 @@ use Rattle.def_turn.specs.Pass.{IsCurrent}
 use Rattle.def_session.specs.Caller.{SessionPass, own, IsOfSession}
 
 module _ {K A : Type 0} (cmp : K → K → Ordering) (r : Meaning K A) where
-  -- a Look of its caller fits the history, in which the caller waits for the key; and it is legal after it
-  -- where it comes to no wait
+  -- a Look of its caller fits the history, in which the caller waits for the key; and it is legal
+  -- after it where it comes to no wait
   pub record MayLook (n c : ℕ) (k : K) (h : List (Event K A)) : Type 0 where
     pub fits : Fits cmp (replay cmp n h) (Look c)
     pub awaits : (caller_at (replay cmp n h).callers c).awaits ≡ Some k
@@ -22,8 +22,8 @@ module _ {K A : Type 0} (cmp : K → K → Ordering) (r : Meaning K A) where
         ((w : ℕ) → outcome cmp (replay cmp n h) (Look c) ≢ Wait w)
         → Legal cmp r n (h ++ Look c ∷ [])
 
-  -- an event that is no Look, and is legal after what its caller has seen, is legal after each history that
-  -- its turn may find
+  -- an event that is no Look, and is legal after what its caller has seen, is legal after each
+  -- history that its turn may find
   abbrev pub StaysLegal : Type 0 → Type 0
   StaysLegal R =
       (p : SessionPass R K A) (e : Event K A) (h : List (Event K A))

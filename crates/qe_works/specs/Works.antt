@@ -9,7 +9,8 @@ use Rattle.def_core.specs.State.{State}
 use Rattle.def_core.specs.Replay.{outcome}
 
 -- what the event comes to in the state, and the key's answer in it
-pub record IsReply {K A : Type 0} (cmp : K → K → Ordering) (s : State K A) (e : Event K A) (k : K) (o : Outcome (List K)) (a : Option A) : Type 0 where
+pub record IsReply {K A : Type 0} (cmp : K → K → Ordering) (s : State K A) (e : Event K A) (k : K)
+    (o : Outcome (List K)) (a : Option A) : Type 0 where
   pub outcome_is : o ≡ outcome cmp s e
   pub answer_is : a ≡ get cmp s.published k
 
