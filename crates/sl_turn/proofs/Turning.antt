@@ -40,7 +40,7 @@ module _ {E O : Type 0} where
 
 -- what is known of a turn once its value can be given back
 pub record Facts {T S E O : Type 0} (subject_of : T → S) (history_of : T → List E) (by : E → ℕ) (legal : S → List E → Type 0) (lock : Lock S) (v : View S E) (entry : E)
-    (fits : List E → Type 0) (tells : S → List E → Turned O → Type 0) (turned : Turned O) (ticket : ℕ) (begun after : Me (Option T) (View S E)) (value : T) : Type 0 where
+    (fits : S → List E → Type 0) (tells : S → List E → Turned O → Type 0) (turned : Turned O) (ticket : ℕ) (begun after : Me (Option T) (View S E)) (value : T) : Type 0 where
   pub subject_is : v.subject ≡ Some lock.subject
   pub numbered : 1 ≤ v.number
   pub sound : IsSound by legal v
@@ -53,8 +53,21 @@ pub record Facts {T S E O : Type 0} (subject_of : T → S) (history_of : T → L
   pub history : history_of value ≡ history_after turned entry (history_of taken.value)
   pub told : tells (subject_of taken.value) (history_of taken.value) turned
 
+-- a work may run on the value that a seat has taken
+pub fits_taken : {T S E O : Type 0} {subject_of : T → S} {history_of : T → List E} {by : E → ℕ} {legal : S → List E → Type 0} {lock : Lock S}
+    {begun : Me (Option T) (View S E)} (v : View S E) (entry : E) (fits : S → List E → Type 0) (tells : S → List E → Turned O → Type 0)
+    → v.subject ≡ Some lock.subject → MayTurn by legal (pass_of lock v) entry fits tells
+    → (taken : (ticket : ℕ) × HasTaken subject_of history_of by legal (record v { ticket = Some ticket }, []) begun)
+    → (value : T) × Carries begun value × fits (subject_of value) (history_of value)
+fits_taken {S = S} {subject_of = subject_of} {history_of = history_of} {legal = legal} {lock = lock} v entry fits tells subject_is may taken =
+    let t = taken.1 in
+    let lock_is : subject_of t.value ≡ lock.subject = (let is = t.subject in cc (is, subject_is)) in
+    let found : legal lock.subject (history_of t.value) = subst (λ (z : S). legal z (history_of t.value)) lock_is t.legal_history in
+    let passes = (may (history_of t.value) found record { begins = t.begins; booked = t.booked; own = t.own }).0 in
+    (t.value, t.carried, subst (λ (z : S). fits z (history_of t.value)) (sym lock_is) passes)
+
 pub gather : {T S E O : Type 0} {subject_of : T → S} {history_of : T → List E} {by : E → ℕ} {legal : S → List E → Type 0} {lock : Lock S} {v : View S E} {entry : E}
-    {fits : List E → Type 0} {tells : S → List E → Turned O → Type 0} {turned : Turned O} {begun after : Me (Option T) (View S E)}
+    {fits : S → List E → Type 0} {tells : S → List E → Turned O → Type 0} {turned : Turned O} {begun after : Me (Option T) (View S E)}
     → v.subject ≡ Some lock.subject → 1 ≤ v.number → IsSound by legal v → by entry ≡ v.number → MayTurn by legal (pass_of lock v) entry fits tells
     → (taken : (ticket : ℕ) × HasTaken subject_of history_of by legal (record v { ticket = Some ticket }, []) begun) → after.0 ≡ begun.0
     → (done : (value : T) × Carries after value × (subject_of value ≡ subject_of taken.1.value) × (history_of value ≡ history_after turned entry (history_of taken.1.value))
@@ -75,7 +88,7 @@ gather subject_is numbered sound own may taken same done = record {
 }
 
 module _ {T S E O : Type 0} {subject_of : T → S} {history_of : T → List E} {by : E → ℕ} {legal : S → List E → Type 0} {lock : Lock S} {v : View S E} {entry : E}
-    {fits : List E → Type 0} {tells : S → List E → Turned O → Type 0} {turned : Turned O} {ticket : ℕ} {begun after : Me (Option T) (View S E)} {value : T}
+    {fits : S → List E → Type 0} {tells : S → List E → Turned O → Type 0} {turned : Turned O} {ticket : ℕ} {begun after : Me (Option T) (View S E)} {value : T}
     (f : Facts subject_of history_of by legal lock v entry fits tells turned ticket begun after value) where
   open f use {subject_is, numbered, sound, own, may, taken, same, carried, about, history, told}
 

@@ -33,11 +33,11 @@ module _ {E O : Type 0} where
 module _ {S E O : Type 0} (by : E → ℕ) (legal : S → List E → Type 0) where
   -- what may come of a turn: each legal history that may be found passes the work's test, and where
   -- the work enters, its entry is legal after it
-  abbrev pub MayTurn : PassState S E → E → (List E → Type 0)
+  abbrev pub MayTurn : PassState S E → E → (S → List E → Type 0)
       → (S → List E → Turned O → Type 0) → Type 0
   MayTurn pass entry fits tells = (history : List E)
       → legal pass.lock.subject history → IsCurrent by pass history
-      → fits history
+      → fits pass.lock.subject history
       × ((out : O) → tells pass.lock.subject history (Entered out)
       → legal pass.lock.subject (history ++ entry ∷ []))
 

@@ -54,7 +54,7 @@ impl Work<Tally> for Add {
 
     ghost entry = { λ add. record { caller = add.caller; step = add.step } };
 
-    ghost fits = { λ add history. Unit {0} };
+    ghost fits = { λ add limit history. Unit {0} };
 
     ghost tells = { λ add limit history turned.
         IfEntered turned (λ place. (place ≡ length history) × (place < limit))
@@ -92,7 +92,7 @@ impl<R: Clock> Work<Tally> for AddSlowly<'_, R> {
 
     ghost entry = { λ slow. record { caller = slow.add.caller; step = slow.add.step } };
 
-    ghost fits = { λ slow history. Unit {0} };
+    ghost fits = { λ slow limit history. Unit {0} };
 
     ghost tells = { λ slow limit history turned.
         IfEntered turned (λ place. (place ≡ length history) × (place < limit))

@@ -185,7 +185,7 @@ impl<T: StandsFor> Turn<T> {
     // Does the work on the value that the seat has taken.
     fn run<W: Work<T>>(&self, seat: &mut Place<T>, work: &mut W) -> Turned<W::Out>
         requires lock { seat.old.table_id ≡ self.now.table }
-        requires taken { (taken : T) × Carries seat.old.me taken × W.fits work.old (T.history taken) }
+        requires taken { (taken : T) × Carries seat.old.me taken × W.fits work.old (T.subject taken) (T.history taken) }
         ensures seat { (seat.new.table_id ≡ seat.old.table_id) × (seat.new.id ≡ seat.old.id)
             × (seat.new.me.0 ≡ seat.old.me.0) }
         ensures done { (taken : T) → Carries seat.old.me taken

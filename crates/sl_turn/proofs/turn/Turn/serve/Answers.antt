@@ -1,6 +1,10 @@
 use Rattle.std.proofs.Common.{rules, ◌≡◌, ap, ◌∙◌}
-use Rattle.sl_turn.proofs.Turning.{gather, raise_allowed, turn_done, sound_done, begins_done, holds_done}
+use Rattle.sl_turn.proofs.Turning.{fits_taken, gather, raise_allowed, turn_done, sound_done, begins_done, holds_done}
 use Rattle.sl_turn.proofs.turn.Turn.serve.Goals as goal
+
+pub run-turned-requires-clause-taken : goal.run-turned-requires-clause-taken
+run-turned-requires-clause-taken g c =
+    fits_taken c.args.seat.now.me.0 (g.W.Work.entry c.args.work.now) (g.W.Work.fits c.args.work.now) (g.W.Work.tells c.args.work.now) c.requires.subject c.requires.may c.begin.ensures.taken
 
 pub fetch_add-requires : goal.fetch_add-requires
 fetch_add-requires g c =
