@@ -22,9 +22,9 @@ has_result m k = nat_lt 0 (length (words_of is_result (instruction_at m k)))
 unfoldable pub result_type_at : Module → ℕ → ℕ
 result_type_at m k = unwrap_or (result_type_of (instruction_at m k)) 0
 
--- whether an id is defined
+-- whether an id is in range and defined
 unfoldable pub is_defined : Module → ℕ → Bool
-is_defined m id = nat_lt 0 id && nat_lt (place_of m id) (size m)
+is_defined m id = nat_lt 0 id && nat_lt id m.bound && nat_lt (place_of m id) (size m)
 
 -- whether the instruction at a place defines no id, or one that is in range and not defined before
 unfoldable pub defines_once : Module → ℕ → Bool
