@@ -83,9 +83,22 @@ array_of m v = operand_of m (block_of m v) 1
 abbrev pub element_of : Module → ℕ → ℕ
 element_of m v = operand_of m (array_of m v) 1
 
+-- the struct to which a buffer's pointer leads
+pub record IsBlockOf (m : Module) (v t : ℕ) : Type 0 where
+  pub buffer : IsGlobalOf m enumerant.storage_buffer v
+  pub leads_to : block_of m v ≡ t
+  pub struct : opcode_of m t ≡ op.type_struct
+
+-- the runtime array that is its first member
+pub record IsArrayOf (m : Module) (v t : ℕ) : Type 0 where
+  pub block : IsBlockOf m v (block_of m v)
+  pub has_member : 0 < length (members_of m (block_of m v))
+  pub first : array_of m v ≡ t
+  pub array : opcode_of m t ≡ op.type_runtime_array
+
 -- a type that lies in a buffer: the element of its array, and members of what lies in it
 pub data LiesInBuffer (m : Module) : ℕ → Type 0 where
-  Element : (v : ℕ) → IsGlobalOf m enumerant.storage_buffer v → LiesInBuffer m (element_of m v)
+  Element : (v : ℕ) → IsArrayOf m v (array_of m v) → LiesInBuffer m (element_of m v)
   Member : {t u : ℕ} → LiesInBuffer m t → opcode_of m t ≡ op.type_struct
       → Contains (members_of m t) u → LiesInBuffer m u
 
@@ -137,16 +150,16 @@ MayDecorate m id decoration =
     ⊎ (decoration ≡ non_writable))
     × IsGlobalOf m enumerant.storage_buffer id)
     ⊎ ((decoration ≡ enumerant.block)
-    × ((v : ℕ) × (IsGlobalOf m enumerant.storage_buffer v × (block_of m v ≡ id))))
-    ⊎ ((decoration ≡ enumerant.array_stride)
-    × ((v : ℕ) × (IsGlobalOf m enumerant.storage_buffer v × (array_of m v ≡ id))))
+    × ((v : ℕ) × IsBlockOf m v id))
+    ⊎ ((decoration ≡ enumerant.array_stride) × ((v : ℕ) × IsArrayOf m v id))
 
--- what an OpMemberDecorate may stand for: a member of a block, or of a struct in a buffer
+-- what an OpMemberDecorate may stand for: the first member of a block, or any of a struct in a
+-- buffer
 abbrev pub MayPlace : Module → ℕ → ℕ → Type 0
 MayPlace m t member =
-    (member < length (members_of m t))
-    × (LiesInBuffer m t
-    ⊎ ((v : ℕ) × (IsGlobalOf m enumerant.storage_buffer v × (block_of m v ≡ t))))
+    ((member ≡ 0) × ((v : ℕ) × IsBlockOf m v t))
+    ⊎ ((opcode_of m t ≡ op.type_struct) × (member < length (members_of m t))
+    × LiesInBuffer m t)
 
 -- Rule 12: global variables are dispatch ids and buffers, laid out as their decorations say, and no
 -- other decoration stands.

@@ -6,8 +6,8 @@ use Rattle.std.specs.Option.{unwrap_or}
 use Rattle.def_spirv.specs.Opcodes as op
 use Rattle.def_spirv.specs.Operands.{is_result, result_type_of, uses_of, words_of}
 use Rattle.def_spirv.specs.Words.{Module}
-use Rattle.def_valid.specs.Places.{size, instruction_at, opcode_at, operand_at, result_at, place_of, opcode_of, is_inside, function_at, block_at, operands_from}
-use Rattle.def_valid.specs.Sections.{is_type, begins_before, section_at}
+use Rattle.def_valid.specs.Places.{size, instruction_at, opcode_at, operand_at, result_at, place_of, opcode_of, last_before, is_inside, function_at, block_at, operands_from}
+use Rattle.def_valid.specs.Sections.{is_type, section_at}
 use lib.Pointwise.{pointwise}
 
 -- the ids that the instruction at a place uses
@@ -22,9 +22,9 @@ has_result m k = nat_lt 0 (length (words_of is_result (instruction_at m k)))
 unfoldable pub result_type_at : Module → ℕ → ℕ
 result_type_at m k = unwrap_or (result_type_of (instruction_at m k)) 0
 
--- whether an id is defined
+-- whether an id is in range and defined
 unfoldable pub is_defined : Module → ℕ → Bool
-is_defined m id = nat_lt 0 id && nat_lt (place_of m id) (size m)
+is_defined m id = nat_lt 0 id && nat_lt id m.bound && nat_lt (place_of m id) (size m)
 
 -- whether the instruction at a place defines no id, or one that is in range and not defined before
 unfoldable pub defines_once : Module → ℕ → Bool
@@ -37,9 +37,12 @@ defines_once m k =
 unfoldable pub ids_defined : Module → ℕ → Bool
 ids_defined m k = defines_once m k && list_all (is_defined m) (uses_at m k)
 
--- whether a place stands in the first block of its function
+-- whether a place stands in the first block of its function: a label is behind the function's begin,
+-- and none between them
 unfoldable pub in_first_block : Module → ℕ → Bool
-in_first_block m k = begins_before m (block_at m k - 1)
+in_first_block m k =
+    nat_lt (function_at m k) (block_at m k)
+    && nat_le (last_before op.label m (block_at m k - 1)) (function_at m k)
 
 -- Whether what stands at one place in a function may be used at another: a variable everywhere
 -- behind, a parameter too where it is a pointer, and else in the first block, all other results in

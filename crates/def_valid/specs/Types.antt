@@ -1,6 +1,6 @@
 -- Rules on the types of operands and results
 -- (SPIR-V 1.5, 2.16.1, "Universal Validation Rules", and the sections of 3, "Instructions").
-use Rattle.std.specs.Prelude.{ℕ, suc, ◌+◌, ◌-◌, ◌/◌, ◌==◌, nat_eq, nat_lt, nat_le, Bool, false, not, ◌&&◌, ◌||◌, List, [], ◌∷◌, length, map, take, drop, if◌then◌else◌}
+use Rattle.std.specs.Prelude.{ℕ, suc, ◌+◌, ◌-◌, ◌*◌, ◌/◌, ◌^◌, ◌==◌, nat_eq, nat_lt, nat_le, Bool, false, not, ◌&&◌, ◌||◌, List, [], ◌∷◌, length, map, take, drop, if◌then◌else◌}
 use Rattle.std.specs.List.{list_all}
 use Rattle.def_spirv.specs.Enumerants as enumerant
 use Rattle.def_spirv.specs.Opcodes as op
@@ -186,10 +186,14 @@ extract_typed m k =
 unfoldable pub composites_typed : Module → ℕ → Bool
 composites_typed m k = construct_typed m k && extract_typed m k
 
+-- the number of a constant of one word or two, the lower first (2.2.1, "Literal")
+unfoldable pub number_of : Module → ℕ → ℕ
+number_of m id = operand_of m id 2 + 2 ^ 32 * operand_of m id 3
+
 -- the type of a struct's member by a constant, or 0 where there is none
 unfoldable pub member_type : Module → ℕ → ℕ → ℕ
 member_type m t index =
-    let number = operand_of m index 2 in
+    let number = number_of m index in
     if opcode_of m t == op.type_struct && opcode_of m index == op.constant
     && nat_lt number (member_count m t)
     then operand_of m t (number + 1)
