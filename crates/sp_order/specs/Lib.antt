@@ -3,3 +3,4 @@ pub use Rattle.def_valid.specs.Blocks
 pub use Rattle.def_valid.specs.Ids
 pub use Rattle.def_valid.specs.Places
 pub use Rattle.def_valid.specs.Sections
+pub mod Rules
