@@ -6,7 +6,7 @@ ghost use Rattle.std.specs.List.{list_all};
 ghost use Rattle.def_valid.specs.Ids as ids;
 
 use crate::opcodes::opcode_of;
-use crate::sections::{begins_before, section_at};
+use crate::sections::section_at;
 use sp_places::Places;
 use sp_words::opcode;
 
@@ -14,7 +14,7 @@ use sp_words::opcode;
 fn is_defined(places: &Places, id: u32) -> bool
     ensures { result ≡ ids.is_defined places.now id }
 {
-    0 < id && places.place(id) < places.size()
+    0 < id && id < places.bound() && places.place(id) < places.size()
 }
 
 fn are_defined(places: &Places, uses: &[u32]) -> bool
@@ -43,7 +43,9 @@ pub fn ids_defined(places: &Places, place: usize) -> bool
 fn in_first_block(places: &Places, place: usize) -> bool
     ensures { result ≡ ids.in_first_block places.now place }
 {
-    begins_before(places, places.block(place).saturating_sub(1))
+    let function = places.function(place);
+    let block = places.block(place);
+    function < block && places.block_before(block.saturating_sub(1)) <= function
 }
 
 #[tactic(auto, unfolding(def_valid::specs::Ids::reaches_inside))]
