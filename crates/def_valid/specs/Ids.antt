@@ -37,8 +37,8 @@ defines_once m k =
 unfoldable pub ids_defined : Module → ℕ → Bool
 ids_defined m k = defines_once m k && list_all (is_defined m) (uses_at m k)
 
--- whether a place stands in the first block of its function: a label is behind the function's begin,
--- and none between them
+-- whether a place stands in the first block of its function: a label is behind the function's
+-- begin, and none between them
 unfoldable pub in_first_block : Module → ℕ → Bool
 in_first_block m k =
     nat_lt (function_at m k) (block_at m k)
