@@ -1,0 +1,6 @@
+pub use Rattle.def_spirv.specs.Words
+pub use Rattle.def_valid.specs.Blocks
+pub use Rattle.def_valid.specs.Ids
+pub use Rattle.def_valid.specs.Places
+pub use Rattle.def_valid.specs.Sections
+pub mod Rules

@@ -1,0 +1,4 @@
+pub mod Gathering
+pub mod Keys
+pub mod Listed
+pub mod Modules

@@ -1,0 +1,8 @@
+pub use Rattle.def_spirv.specs.Words
+pub use Rattle.def_valid.specs.Places
+pub use Rattle.def_valid.specs.Sections
+pub use Rattle.def_valid.specs.Ids
+pub mod Gather
+pub mod Index
+pub mod Last
+pub mod Tables
