@@ -72,10 +72,11 @@ merge_block_in i =
 unfoldable pub continue_target_in : Instruction → ℕ
 continue_target_in i = if i.opcode == op.loop_merge then slice_index i.operands 1 else 0
 
--- where a block is named first as a merge block, and as a continue target
+-- where a block is named first as a merge block
 unfoldable pub header_of : Module → ℕ → ℕ
 header_of m id = position_or_len (λ block. block == id) (map merge_block_in m.instructions)
 
+-- where a block is named first as a continue target
 unfoldable pub loop_of : Module → ℕ → ℕ
 loop_of m id = position_or_len (λ block. block == id) (map continue_target_in m.instructions)
 

@@ -73,13 +73,15 @@ pub record AreSizes (m : Module) (s : Sizes) : Type 0 where
 abbrev pub IsGlobalOf : Module → ℕ → ℕ → Type 0
 IsGlobalOf m class v = IsGlobal m v × (operand_of m v 2 ≡ class)
 
--- the type to which a variable points: of a buffer the block, with its array and that one's element
+-- the type to which a variable points: of a buffer its block
 abbrev pub block_of : Module → ℕ → ℕ
 block_of m v = pointee_of m (operand_of m v 0)
 
+-- the runtime array that a buffer's block begins with
 abbrev pub array_of : Module → ℕ → ℕ
 array_of m v = operand_of m (block_of m v) 1
 
+-- the type of that array's elements
 abbrev pub element_of : Module → ℕ → ℕ
 element_of m v = operand_of m (array_of m v) 1
 

@@ -17,16 +17,19 @@ pub data Construct : Type 0 where
   Body : ℕ → Construct
   Continue : ℕ → Construct
 
--- where the merge block and the continue target of a merge instruction begin
+-- where the merge block of a merge instruction begins
 abbrev pub merge_place : Module → ℕ → ℕ
 merge_place m h = place_of m (operand_at m h 0)
 
+-- where the continue target of a loop begins
 abbrev pub continue_place : Module → ℕ → ℕ
 continue_place m h = place_of m (operand_at m h 1)
 
+-- a selection is begun at a place (OpSelectionMerge)
 abbrev pub IsSelection : Module → ℕ → Type 0
 IsSelection m h = opcode_at m h ≡ op.selection_merge
 
+-- a loop is begun at a place (OpLoopMerge)
 abbrev pub IsLoop : Module → ℕ → Type 0
 IsLoop m h = opcode_at m h ≡ op.loop_merge
 
@@ -48,14 +51,13 @@ merge_of (Selection h) = h
 merge_of (Body h) = h
 merge_of (Continue h) = h
 
--- the first place of a construct, and the first place behind it: the branch of the header
--- belongs to
--- what the header begins
+-- the first place of a construct: the branch of the header belongs to what the header begins
 abbrev pub begin_of : Module → Construct → ℕ
 begin_of m (Selection h) = h + 1
 begin_of m (Body h) = h + 1
 begin_of m (Continue h) = continue_place m h
 
+-- the first place behind a construct
 abbrev pub end_of : Module → Construct → ℕ
 end_of m (Selection h) = merge_place m h
 end_of m (Body h) = continue_place m h

@@ -23,13 +23,15 @@ is_constant opcode =
     opcode == op.constant_true || opcode == op.constant_false || opcode == op.constant
     || opcode == op.constant_null
 
--- the section of a function, and of what stands in functions alone
+-- the section of a function
 abbrev pub function_section : ℕ
 function_section = 7
 
+-- the section of what stands in functions alone
 abbrev pub inner_section : ℕ
 inner_section = 8
 
+-- the section of an opcode that no module has
 abbrev pub no_section : ℕ
 no_section = 9
 
@@ -94,19 +96,23 @@ is_storage_class number =
 unfoldable pub is_width : ℕ → Bool
 is_width bits = bits == 32
 
+-- OpCapability: Shader
 unfoldable pub capability_numbers : Module → ℕ → Bool
 capability_numbers m k =
     not (opcode_at m k == op.capability) || operand_at m k 0 == enumerant.shader
 
+-- OpMemoryModel: Logical, GLSL450
 unfoldable pub model_numbers : Module → ℕ → Bool
 model_numbers m k =
     not (opcode_at m k == op.memory_model)
     || (operand_at m k 0 == enumerant.logical && operand_at m k 1 == enumerant.glsl450)
 
+-- OpEntryPoint: GLCompute
 unfoldable pub entry_numbers : Module → ℕ → Bool
 entry_numbers m k =
     not (opcode_at m k == op.entry_point) || operand_at m k 0 == enumerant.gl_compute
 
+-- OpExecutionMode: LocalSize with three numbers
 unfoldable pub mode_numbers : Module → ℕ → Bool
 mode_numbers m k =
     not (opcode_at m k == op.execution_mode)
@@ -116,9 +122,11 @@ mode_numbers m k =
 abbrev pub non_writable : ℕ
 non_writable = 24
 
+-- decorations without a number
 unfoldable pub is_bare_decoration : ℕ → Bool
 is_bare_decoration decoration = decoration == enumerant.block || decoration == non_writable
 
+-- decorations with a number, and the one built-in variable
 unfoldable pub is_numbered_decoration : ℕ → ℕ → Bool
 is_numbered_decoration decoration number =
     decoration == enumerant.array_stride || decoration == enumerant.binding
@@ -134,19 +142,23 @@ decoration_numbers m k =
     || (count == 2 && is_bare_decoration decoration)
     || (count == 3 && is_numbered_decoration decoration (operand_at m k 2))
 
+-- OpMemberDecorate: Offset with a number
 unfoldable pub member_numbers : Module → ℕ → Bool
 member_numbers m k =
     not (opcode_at m k == op.member_decorate)
     || (operand_at m k 2 == enumerant.offset && operand_count m k == 4)
 
+-- OpTypeInt: a width that is in use, and signed or not
 unfoldable pub integer_numbers : Module → ℕ → Bool
 integer_numbers m k =
     not (opcode_at m k == op.type_int)
     || (is_width (operand_at m k 1) && nat_le (operand_at m k 2) 1)
 
+-- OpTypeVector: three components
 unfoldable pub vector_numbers : Module → ℕ → Bool
 vector_numbers m k = not (opcode_at m k == op.type_vector) || operand_at m k 2 == 3
 
+-- OpTypePointer, OpVariable: a storage class that is in use
 unfoldable pub class_numbers : Module → ℕ → Bool
 class_numbers m k =
     let opcode = opcode_at m k in
@@ -219,6 +231,7 @@ is_local_size m k =
     operand_at m k 0 == entry_function m
     && nat_lt 0 (operand_at m k 2) && nat_lt 0 (operand_at m k 3) && nat_lt 0 (operand_at m k 4)
 
+-- an entry point is such a function
 unfoldable pub entry_fits : Module → ℕ → Bool
 entry_fits m k =
     not (opcode_at m k == op.entry_point) || is_plain_function m (operand_at m k 1)

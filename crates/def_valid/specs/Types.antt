@@ -17,13 +17,15 @@ type_of m id =
     if opcode_of m id == op.function then 0
     else result_type_at m (place_of m id)
 
--- Types (2.2.2, "Types")
+-- a boolean type (2.2.2, "Types")
 abbrev pub is_boolean_type : Module → ℕ → Bool
 is_boolean_type m t = opcode_of m t == op.type_bool
 
+-- an integer type
 abbrev pub is_integer_type : Module → ℕ → Bool
 is_integer_type m t = opcode_of m t == op.type_int
 
+-- a pointer type
 abbrev pub is_pointer_type : Module → ℕ → Bool
 is_pointer_type m t = opcode_of m t == op.type_pointer
 
@@ -50,14 +52,15 @@ is_value_type m t =
     is_boolean_type m t || is_integer_type m t || opcode_of m t == op.type_vector
     || (opcode_of m t == op.type_struct && not (ends_with_array m t))
 
--- the storage class of a pointer type, and the type to which it points
+-- the storage class of a pointer type
 abbrev pub class_of : Module → ℕ → ℕ
 class_of m t = operand_of m t 1
 
+-- the type to which a pointer type points
 abbrev pub pointee_of : Module → ℕ → ℕ
 pointee_of m t = operand_of m t 2
 
--- Values
+-- whether an id is a boolean
 unfoldable pub is_boolean : Module → ℕ → Bool
 is_boolean m id = is_boolean_type m (type_of m id)
 
@@ -66,9 +69,11 @@ unfoldable pub is_integer_like : Module → ℕ → ℕ → Bool
 is_integer_like m t id =
     is_integer_type m (type_of m id) && width_of m (type_of m id) == width_of m t
 
+-- whether an id is a value
 unfoldable pub is_value : Module → ℕ → Bool
 is_value m id = nat_lt 0 (type_of m id)
 
+-- whether an id is a label
 abbrev pub is_label : Module → ℕ → Bool
 is_label m id = opcode_of m id == op.label
 
@@ -84,12 +89,14 @@ is_binary opcode =
     || opcode == op.signed_divide || opcode == op.signed_remainder
     || (nat_le op.shift_right_logical opcode && nat_le opcode op.bitwise_and)
 
+-- an integer operation on one operand
 unfoldable pub unary_typed : Module → ℕ → Bool
 unary_typed m k =
     let t = operand_at m k 0 in
     not (is_unary (opcode_at m k))
     || (is_integer_type m t && is_integer_like m t (operand_at m k 2))
 
+-- an integer operation on two operands
 unfoldable pub binary_typed : Module → ℕ → Bool
 binary_typed m k =
     let t = operand_at m k 0 in
@@ -127,11 +134,13 @@ logical_typed m k =
     || (is_boolean_type m (operand_at m k 0) && is_boolean m (operand_at m k 2)
     && is_boolean m (operand_at m k 3))
 
+-- OpLogicalNot
 unfoldable pub not_typed : Module → ℕ → Bool
 not_typed m k =
     not (opcode_at m k == op.logical_not)
     || (is_boolean_type m (operand_at m k 0) && is_boolean m (operand_at m k 2))
 
+-- OpSelect: a boolean chooses one of two values of the result's type
 unfoldable pub select_typed : Module → ℕ → Bool
 select_typed m k =
     let t = operand_at m k 0 in
@@ -169,12 +178,14 @@ unfoldable pub extracted_type : Module → ℕ → List ℕ → ℕ
 extracted_type m t [] = t
 extracted_type m t (number ∷ numbers) = extracted_type m (part_type m t number) numbers
 
+-- OpCompositeConstruct
 unfoldable pub construct_typed : Module → ℕ → Bool
 construct_typed m k =
     let t = operand_at m k 0 in
     not (opcode_at m k == op.composite_construct)
     || (is_value_type m t && parts_typed m t (operands_from m k 2))
 
+-- OpCompositeExtract
 unfoldable pub extract_typed : Module → ℕ → Bool
 extract_typed m k =
     let t = operand_at m k 0 in
@@ -288,22 +299,27 @@ is_pointee m t =
     is_type (opcode_of m t) && not (opcode_of m t == op.type_void)
     && not (is_pointer_type m t) && not (opcode_of m t == op.type_function)
 
+-- OpTypeVector: of booleans or integers
 unfoldable pub vector_typed : Module → ℕ → Bool
 vector_typed m k =
     let part = operand_at m k 1 in
     not (opcode_at m k == op.type_vector) || is_boolean_type m part || is_integer_type m part
 
+-- OpTypeRuntimeArray: of values that are stored as wholes
 unfoldable pub array_typed : Module → ℕ → Bool
 array_typed m k =
     not (opcode_at m k == op.type_runtime_array) || is_value_type m (operand_at m k 1)
 
+-- OpTypeStruct
 unfoldable pub struct_typed : Module → ℕ → Bool
 struct_typed m k =
     not (opcode_at m k == op.type_struct) || members_typed m (operands_from m k 1)
 
+-- OpTypePointer
 unfoldable pub pointer_typed : Module → ℕ → Bool
 pointer_typed m k = not (opcode_at m k == op.type_pointer) || is_pointee m (operand_at m k 2)
 
+-- OpTypeFunction: nothing or a value from parameters
 unfoldable pub signature_typed : Module → ℕ → Bool
 signature_typed m k =
     let returned = operand_at m k 1 in
@@ -344,6 +360,7 @@ call_typed m k =
 unfoldable pub functions_typed : Module → ℕ → Bool
 functions_typed m k = function_typed m k && call_typed m k
 
+-- OpLoopMerge, OpSelectionMerge, OpBranch: they name labels
 unfoldable pub merge_typed : Module → ℕ → Bool
 merge_typed m k =
     let opcode = opcode_at m k in
@@ -351,12 +368,14 @@ merge_typed m k =
     || is_label m (operand_at m k 0))
     && (not (opcode == op.loop_merge) || is_label m (operand_at m k 1))
 
+-- OpBranchConditional: a boolean and two labels
 unfoldable pub conditional_typed : Module → ℕ → Bool
 conditional_typed m k =
     not (opcode_at m k == op.branch_conditional)
     || (is_boolean m (operand_at m k 0) && is_label m (operand_at m k 1)
     && is_label m (operand_at m k 2))
 
+-- OpReturnValue: a value
 unfoldable pub return_typed : Module → ℕ → Bool
 return_typed m k = not (opcode_at m k == op.return_value) || is_value m (operand_at m k 0)
 
@@ -370,18 +389,21 @@ types_fit m k =
     integers_typed m k && booleans_typed m k && composites_typed m k && pointers_typed m k
     && declarations_typed m k && functions_typed m k && branches_typed m k
 
+-- OpConstantTrue, OpConstantFalse: of a boolean type
 unfoldable pub truth_typed : Module → ℕ → Bool
 truth_typed m k =
     let opcode = opcode_at m k in
     not (opcode == op.constant_true || opcode == op.constant_false)
     || is_boolean_type m (operand_at m k 0)
 
+-- OpConstant: of an integer type, with as many words as its width asks
 unfoldable pub number_typed : Module → ℕ → Bool
 number_typed m k =
     let t = operand_at m k 0 in
     not (opcode_at m k == op.constant)
     || (is_integer_type m t && operand_count m k == 2 + width_of m t / 32)
 
+-- OpConstantNull: of a type of values that are stored as wholes
 unfoldable pub null_typed : Module → ℕ → Bool
 null_typed m k = not (opcode_at m k == op.constant_null) || is_value_type m (operand_at m k 0)
 
