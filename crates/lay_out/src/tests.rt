@@ -1,4 +1,5 @@
-ghost use Rattle.std.specs.Prelude.{◌≡◌, ◌^◌, ◌<◌, IfOk, length};
+ghost use Rattle.std.specs.Prelude.{◌≡◌, ◌*◌, ◌^◌, ◌<◌, IfOk, length};
+ghost use Rattle.def_layout.specs.Shape.{HasLeaves, leaf_count};
 ghost use Rattle.lay_out.specs.View.{shape_in};
 ghost use Rattle.lay_out.specs.Samples.{nested, pair};
 
@@ -27,6 +28,54 @@ fn a_struct_in_a_struct_is_laid_out(rt: HostRuntime) -> Result<(), Fail> {
         assert_eq!(rt; leaf.scalar, *scalar);
     }
     Ok(())
+}
+
+#[test]
+fn structs_of_sixty_four_levels_with_a_thousand_numbers_are_laid_out(
+    rt: HostRuntime,
+) -> Result<(), Fail> {
+    let shape = deep_shape(rt.alloc(), 64)?;
+    let laid = layout(rt.alloc(), &shape)?;
+    assert_eq!(rt; (laid.size, laid.align, laid.stride), (4096, 4, 4096));
+    assert_eq!(rt; laid.leaves.len(), 1024);
+    match laid.leaves.as_slice().last() {
+        None => assert_eq!(rt; true, false),
+        Some(leaf) => {
+            assert_eq!(rt; leaf.path.len(), 64);
+            assert_eq!(rt; leaf.offset, 4092);
+        }
+    }
+    Ok(())
+}
+
+// Structs one in the other, with 16 numbers at each level, the deepest ones last.
+#[tactic(auto, using(crate::proofs::Shapes::shape_forms))]
+fn deep_shape(alloc: Global, levels: u32) -> Result<Shape, Fail>
+    requires { 0 < levels }
+    ensures { IfOk result (λ shape. HasLeaves (shape_in shape) × (leaf_count (shape_in shape) ≡ 16 * levels)) }
+{
+    let mut fields = vec![in alloc;
+        Shape::Int,
+        Shape::Int,
+        Shape::Int,
+        Shape::Int,
+        Shape::Int,
+        Shape::Int,
+        Shape::Int,
+        Shape::Int,
+        Shape::Int,
+        Shape::Int,
+        Shape::Int,
+        Shape::Int,
+        Shape::Int,
+        Shape::Int,
+        Shape::Int,
+        Shape::Int,
+    ]?;
+    if levels > 1 {
+        fields.push(deep_shape(alloc, levels - 1)?)?;
+    }
+    Ok(Shape::Fields(Items::from_vec(fields)))
 }
 
 // A struct of a number, a pair and a number.
