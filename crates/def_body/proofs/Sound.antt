@@ -13,7 +13,7 @@ use Rattle.sl_key.specs.declared.answer.Answer.TheVariants.{Good, Bad, Spoiled, 
 use Rattle.sl_key.specs.declared.answer.Good.{Good as Held}
 use Rattle.sl_key.specs.declared.key.Key.{Key}
 use Rattle.sl_key.specs.declared.key.Kind.{Kind}
-use Rattle.def_body.specs.Laws.{BodiesAreSound, IsSound}
+use Rattle.def_body.specs.Laws.{BodiesAreSound}
 use Rattle.def_body.specs.Part.{Body, Break, Give, Known, Part, Reads, Use, answer_of, run, run_body}
 
 -- the answers m are among the answers n

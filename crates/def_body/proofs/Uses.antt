@@ -1,5 +1,5 @@
 -- How parts in turn are run, and which keys they use.
-use Rattle.std.proofs.Common.{◌≡◌, refl, ap, Option, Some, None, Bool, true, false, cond}
+use Rattle.std.proofs.Common.{◌≡◌, refl, Option, Some, None, Bool, true, false, cond}
 use Rattle.sl_base.specs.declared.diag.Site.{Site}
 use Rattle.sl_key.specs.Flow.{Facts, Flow, Holds, Needs, Stop, Value, and_then, used}
 use Rattle.sl_key.specs.declared.fault.Fault.{Fault}

@@ -1,9 +1,9 @@
 -- Bodies of keys as data, and the one function that runs them over answers.
-use Rattle.std.specs.Prelude.{List, Option, Some, None, Result, Ok, Err}
+use Rattle.std.specs.Prelude.{Option, Some, None, Result, Ok, Err}
 use Rattle.sl_base.specs.declared.diag.Diag.{Diag}
 use Rattle.sl_base.specs.declared.diag.Site.{Site}
 use Rattle.sl_key.specs.Fault.{told_at}
-use Rattle.sl_key.specs.Flow.{Facts, Flow, Holds, Needs, Stop, Value, and_then, finished, hold, used}
+use Rattle.sl_key.specs.Flow.{Facts, Flow, Holds, Stop, Value, and_then, finished, hold, used}
 use Rattle.sl_key.specs.declared.answer.Answer.{Answer}
 use Rattle.sl_key.specs.declared.answer.Answer.TheVariants.{Good, Bad}
 use Rattle.sl_key.specs.declared.fault.Fault.{Fault}

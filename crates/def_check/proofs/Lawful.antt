@@ -1,9 +1,9 @@
 -- The bodies of keys keep to what is asked of rules.
-use Rattle.std.proofs.Common.{◌≡◌, ◌∙◌, refl, sym, ap, subst, inl, inr, ℕ, zero, suc, List, [], ◌∷◌, ◌++◌, map, Option, Some, None}
+use Rattle.std.proofs.Common.{◌≡◌, ◌∙◌, refl, sym, ap, subst, inl, inr, ℕ, zero, suc, List, [], ◌∷◌, map, Option, Some, None}
 use Rattle.std.specs.List.{cons_option, flat_map}
-use Rattle.sl_key.specs.Flow.{Facts, Flow, Holds, Needs, Stop, Value as Given, and_then, held_as, or_spoiled, used, used_by}
+use Rattle.sl_key.specs.Flow.{Facts, Holds, Value as Given, and_then, held_as, or_spoiled, used, used_by}
 use Rattle.sl_key.specs.Names.{decls_in, key_of, keys_of as keys_declared}
-use Rattle.sl_key.specs.Order.{key_cmp, module_key, module_of}
+use Rattle.sl_key.specs.Order.{key_cmp, module_of}
 use Rattle.sl_key.specs.Ordered.{key_apart, key_total}
 use Rattle.sl_key.specs.declared.answer.Answer.{Answer}
 use Rattle.sl_key.specs.declared.answer.Answer.TheVariants.{Good, Bad, Spoiled, Circular}
@@ -25,7 +25,7 @@ use Rattle.def_query.proofs.Walks.{in_append_cases, in_append_left, in_append_ri
 use Rattle.def_sources.specs.Sources.{Sources}
 use Rattle.def_body.specs.Part.{run_body}
 use Rattle.def_body.proofs.Sound.{BodyUsesOnly, bodies_are_sound, needs_are_used}
-use Rattle.def_check.specs.Body.{body, body_of, declarations_in, keys_of, keys_seen, meaning_of}
+use Rattle.def_check.specs.Body.{body, declarations_in, keys_of, keys_seen, meaning_of}
 use Rattle.def_check.specs.Syntax.{syntax_of}
 use Rattle.def_check.proofs.Uses.{uses_alias, uses_const, uses_imports}
 

@@ -16,7 +16,7 @@ use Rattle.sl_key.specs.declared.request.Term.TheVariants.{Load}
 use Rattle.def_query.specs.Map.{get}
 use Rattle.def_query.specs.declared.step.Step.{Step}
 use Rattle.def_query.specs.declared.step.Step.TheVariants.{Needs, Done}
-use Rattle.def_syntax.specs.Lexed.{lexed}
+use Rattle.def_token.specs.Lexed.{lexed}
 use Rattle.def_syntax.specs.Syntax.{syntax_in}
 use Rattle.def_sources.specs.Sources.{Sources}
 use Rattle.def_check.specs.Body.{body_of}

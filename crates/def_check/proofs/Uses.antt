@@ -17,7 +17,7 @@ use Rattle.def_tree.specs.ExprTree as expr
 use Rattle.def_tree.specs.ExprTree.{ExprTree}
 use Rattle.def_tree.specs.TypeTree as written
 use Rattle.def_tree.specs.TypeTree.{TypeTree, NoTypes}
-use Rattle.def_module.specs.Built.{is_small_number}
+use Rattle.def_built.specs.Built.{is_small_number}
 use Rattle.def_module.specs.DeclTree as tree
 use Rattle.def_module.specs.DeclTree.{ConstTree, DeclTree}
 use Rattle.def_query.specs.Keys.{IsIn}
@@ -117,7 +117,7 @@ module _ (P : Key → Type 0) (H : (key : Key) → Holds key.kind → Type 0) (s
 
   uses_value : (e : ExprTree) → UsesOnly P H (value_of scope e)
   uses_value (expr.Number token) = uses_number token
-  uses_value (expr.Truth value token) = tt
+  uses_value (expr.BooleanLiteral value token) = tt
   uses_value (expr.Name name NoTypes) = uses_value_named name (key_named scope.module scope.decls name.text) refl
   uses_value (expr.Group opening inner) = uses_value inner
   uses_value (expr.Binary operator token left right) =

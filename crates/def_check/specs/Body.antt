@@ -1,9 +1,9 @@
 -- The bodies of keys.
-use Rattle.std.specs.Prelude.{ℕ, List, [], ◌∷◌, ◌++◌, Option, Some, map}
+use Rattle.std.specs.Prelude.{ℕ, List, [], ◌∷◌, Option, Some, map}
 use Rattle.std.specs.List.{flat_map}
 use Rattle.sl_base.specs.declared.diag.Site.TheVariants.{Source}
 use Rattle.sl_key.specs.Fault.{first_place}
-use Rattle.sl_key.specs.Flow.{Facts, Holds}
+use Rattle.sl_key.specs.Flow.{Facts}
 use Rattle.sl_key.specs.Names.{declared_at, decls_in, keys_of as keys_declared, path_text}
 use Rattle.sl_key.specs.Order.{module_key, module_of}
 use Rattle.sl_key.specs.declared.answer.Answer.{Answer}

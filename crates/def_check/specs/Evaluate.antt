@@ -21,8 +21,8 @@ use Rattle.def_token.specs.Lexical.{Token}
 use Rattle.def_tree.specs.ExprTree as expr
 use Rattle.def_tree.specs.ExprTree.{ExprTree, first_token}
 use Rattle.def_tree.specs.TypeTree as written
-use Rattle.def_tree.specs.TypeTree.{TypeTree, NoTypes}
-use Rattle.def_module.specs.Built.{is_small_number, type_token}
+use Rattle.def_tree.specs.TypeTree.{TypeTree, NoTypes, type_token}
+use Rattle.def_built.specs.Built.{is_small_number}
 use Rattle.def_module.specs.DeclTree.{DeclTree}
 use Rattle.def_check.specs.Values.{arithmetic_of, converted, misfit_of, result_of, type_of, width}
 
@@ -96,7 +96,7 @@ module _ (scope : Scope) where
   -- the value of an expression
   abbrev pub value_of : ExprTree → Part Value
   value_of (expr.Number token) = value_written token
-  value_of (expr.Truth value token) = Give (Bool value)
+  value_of (expr.BooleanLiteral value token) = Give (Bool value)
   value_of (expr.Name name NoTypes) = value_named name (key_named scope.module scope.decls name.text)
   value_of (expr.Group opening inner) = value_of inner
   value_of (expr.Binary operator token left right) =

@@ -1,5 +1,5 @@
 -- The syntax of a module, which needs no other key.
-use Rattle.std.specs.Prelude.{ℕ, List, [], ◌∷◌, Option, Some, None, Result, Ok, Err}
+use Rattle.std.specs.Prelude.{ℕ, List, Option, Some, None, Result, Ok, Err}
 use Rattle.sl_base.specs.declared.diag.Diag.{Diag}
 use Rattle.sl_base.specs.declared.diag.Site.TheVariants.{Request, Source}
 use Rattle.sl_base.specs.declared.place.Place.{Place}
@@ -10,7 +10,7 @@ use Rattle.sl_key.specs.declared.key.Kind.TheVariants as kind
 use Rattle.sl_io.specs.Root.{bytes_of}
 use Rattle.def_body.specs.Part.{answer_of}
 use Rattle.def_module.specs.Syntax.{Answer, Good, Bad}
-use Rattle.def_syntax.specs.Syntax.{syntax_in}
+use Rattle.def_built.specs.Told.{told_in}
 use Rattle.def_sources.specs.Sources.{Sources}
 
 -- a diagnostic at a place of a module
@@ -26,7 +26,7 @@ told name text (Bad fault) =
 
 -- a module's text, if the sources have it; a module that is absent is not asked for
 abbrev pub read : List ℕ → Option (List ℕ) → Result (List ℕ) Diag
-read name (Some text) = told name text (syntax_in text)
+read name (Some text) = told name text (told_in text)
 read name None = Err (told_at Request (NoModule name))
 
 -- what is known of the syntax of a module

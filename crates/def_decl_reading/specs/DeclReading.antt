@@ -4,10 +4,10 @@ use Rattle.def_token.specs.Lexical.{Token}
 use Rattle.def_tree.specs.Limits.{Nesting, all_open, plain, opens, in_bracket}
 use Rattle.def_module.specs.DeclTree as tree
 use Rattle.def_module.specs.DeclTree.{AccessTree, ImportTree, ConstTree, StructTree, InterfaceTree, ExtensionTree, BufferKind, ReadOnly, ReadWrite, BindingTree, BufferTree, AttrTree, Shader, NumThreads, FunctionTree, DeclTree, ModuleTree}
-use Rattle.def_reading.specs.Place.{At}
+use Rattle.def_reading.specs.Cursor.{At}
 use Rattle.def_reading.specs.Try.{Reader, up_to, read_by}
 use Rattle.def_reading.specs.TypeReading.{Reading}
-use Rattle.def_decl_reading.specs.Form.{AText, ASign, ends, Form, Made, Never, Branch, Then, As, Many, Until, AType, AnExpr, token, name, number, sign, opening, when, closed, reads}
+use Rattle.def_decl_reading.specs.Form.{AText, ASign, ends, Form, Made, Never, Branch, Then, As, Many, Until, AType, AnExpr, token, name, number, narrow, sign, opening, when, closed, reads}
 use Rattle.def_decl_reading.specs.MemberReading.{access_form, alias_form, params_form, bases_form, wheres_form, args_form, block_form, member_form, addition_form, item_form, body_form}
 
 -- an import behind its word
@@ -73,7 +73,7 @@ extension_form around access word =
 
 -- the set of a binding, if it is written
 abbrev pub set_form : Form (Option Token)
-set_form = when "," (λ comma. number (λ number. Made (Some number))) (Made None)
+set_form = when "," (λ comma. narrow (λ number. Made (Some number))) (Made None)
 
 -- a binding behind its second bracket, inside both
 abbrev pub binding_form : Nesting → Token → Form BindingTree
@@ -82,7 +82,7 @@ binding_form around first =
     sign "::" (λ colons.
     sign "binding" (λ word.
     opening "(" (in_bracket around).brackets (λ opening.
-    number (λ number.
+    narrow (λ number.
     Then set_form (λ set.
     sign ")" (λ closing.
     sign "]" (λ third.

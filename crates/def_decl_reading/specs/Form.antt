@@ -2,7 +2,7 @@
 --
 -- A form goes on by the next token alone, so that what is read never has to be read again in another way. What it
 -- begins with is taken before a choice is made.
-use Rattle.std.specs.Prelude.{ℕ, zero, suc, Bool, true, false, List, [], ◌∷◌, length, Option, Some, None}
+use Rattle.std.specs.Prelude.{ℕ, zero, suc, Bool, true, false, not, List, [], ◌∷◌, length, Option, Some, None}
 use Prim.Native.String.{String}
 use Rattle.def_token.specs.Lexical.{Token}
 use Rattle.def_tree.specs.ExprTree.{ExprTree}
@@ -14,25 +14,34 @@ use Rattle.def_reading.specs.StmtReading.{stmts_in, stmt_in}
 use Rattle.def_reading.specs.Try.{Reads, Reader, try_then, try_as, refused, choice, listed, ahead, expr_in, type_in}
 use Rattle.def_reading.specs.TypeAhead.{names}
 
--- what a token is to be: a name, a number, a string, or a sign
+-- what a token is to be: a name, a number, a number of a type of 32 bits, a string, or a sign
 pub data Front : Type 0 where
   AName : Front
   ANumber : Front
+  ANarrow : Front
   AText : Front
   ASign : String → Front
 
 -- the symbol is a number
 abbrev pub numbers : Symbol → Bool
 numbers Name = false
-numbers Number = true
+numbers (Number wide) = true
 numbers Text = false
 numbers End = false
 numbers (Sign text) = false
 
+-- the symbol is a number of a type of 32 bits
+abbrev pub narrows : Symbol → Bool
+narrows Name = false
+narrows (Number wide) = not wide
+narrows Text = false
+narrows End = false
+narrows (Sign text) = false
+
 -- the symbol is a string
 abbrev pub texts : Symbol → Bool
 texts Name = false
-texts Number = false
+texts (Number wide) = false
 texts Text = true
 texts End = false
 texts (Sign text) = false
@@ -40,7 +49,7 @@ texts (Sign text) = false
 -- the symbol is the end
 abbrev pub ends : Symbol → Bool
 ends Name = false
-ends Number = false
+ends (Number wide) = false
 ends Text = false
 ends End = true
 ends (Sign text) = false
@@ -49,6 +58,7 @@ ends (Sign text) = false
 abbrev pub is_front : Front → Symbol → Bool
 is_front AName = names
 is_front ANumber = numbers
+is_front ANarrow = narrows
 is_front AText = texts
 is_front (ASign sign) = is_sign sign
 
@@ -84,6 +94,10 @@ name next = token AName plain next
 -- a number, and what stands behind it
 abbrev pub number : {A : Type 0} → (Token → Form A) → Form A
 number next = token ANumber plain next
+
+-- a number of a type of 32 bits, and what stands behind it
+abbrev pub narrow : {A : Type 0} → (Token → Form A) → Form A
+narrow next = token ANarrow plain next
 
 -- a mark or a keyword, and what stands behind it
 abbrev pub sign : {A : Type 0} → String → (Token → Form A) → Form A

@@ -5,7 +5,7 @@ use Rattle.def_token.specs.Lexical.{Token}
 use Rattle.def_tree.specs.Limits.{Nesting, plain, opens, in_bracket, in_block}
 use Rattle.def_tree.specs.Symbol.{is_sign}
 use Rattle.def_tree.specs.TypeTree.{TypeTree}
-use Rattle.def_module.specs.DeclTree.{AccessWord, Public, Internal, Private, AccessTree, AliasTree, ParamTree, WhereTree, ModeWord, In, InOut, ModeTree, ArgTree, BlockTree, FieldTree, TailTree, HeadTree, MethodTree, AssocTree, MemberTree, Field, Method, MemberAlias, ItemTree, Require, Assoc}
+use Rattle.def_module.specs.DeclTree.{AccessWord, Public, Internal, Private, AccessTree, AliasTree, ParamTree, WhereTree, ModeWord, In, InOut, ModeTree, ArgTree, BlockTree, FieldTree, TailTree, HeadTree, RequireTree, MethodTree, AssocTree, MemberTree, Field, Method, MemberAlias, ItemTree, Require, Assoc}
 use Rattle.def_decl_reading.specs.Form.{ASign, Form, Made, Branch, Then, As, Listed, Many, Until, AType, Stmts, name, sign, opening, when, maybe, closed, with_first}
 
 -- a word of access
@@ -189,11 +189,19 @@ assoc_form around word =
     name (λ name.
     As (λ bases. record { word = word; name = name; bases = bases }) (closed ";" (bases_form around)))
 
+-- what a requirement ends with: its own body, or the semicolon
+abbrev pub ending_form : Nesting → Form (Option BlockTree)
+ending_form around = when ";" (λ semicolon. Made None) (As Some (block_form around))
+
+-- a requirement
+abbrev pub require_form : Nesting → Form RequireTree
+require_form around =
+    Then (head_form around) (λ head. As (λ body. record { head = head; body = body }) (ending_form around))
+
 -- a requirement, or an associated type
 abbrev pub item_form : Nesting → Form ItemTree
 item_form around =
-    when "associatedtype" (λ word. As Assoc (assoc_form around word))
-    (As Require (closed ";" (head_form around)))
+    when "associatedtype" (λ word. As Assoc (assoc_form around word)) (As Require (require_form around))
 
 -- forms in braces, which are a block, and the semicolon behind them
 abbrev pub body_form : {A : Type 0} → Nesting → (Nesting → Form A) → Form (List A × Option Token)

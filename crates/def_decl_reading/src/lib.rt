@@ -1,7 +1,5 @@
-//! How declarations and modules are read over lists of tokens.
+//! How declarations and modules are read over lists of tokens. Nobody has to believe these functions: `law_decls` proves
+//! that what they read is exact. The parser of declarations is held to them.
 //!
-//! This crate holds definitions (`specs/`) and laws about them. The parser of declarations is held to its functions on
-//! lists.
+//! This crate holds definitions alone (`specs/`).
 #![tactic(auto)]
-
-pub mod laws;

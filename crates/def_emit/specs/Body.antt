@@ -4,9 +4,9 @@ use Rattle.def_spirv.specs.Symbolic.{Operand, Id, Number, Line}
 use Rattle.def_spirv.specs.Opcodes as op
 use Rattle.def_spirv.specs.Enumerants as enumerant
 use Rattle.def_emit.specs.Program as operation
-use Rattle.def_emit.specs.Program.{Scalar, Int, Uint, Value, Literal, Slot, Operation, Buffer, Program}
+use Rattle.def_emit.specs.Program.{Scalar, Uint, Value, Literal, Slot, Operation, Buffer, Program}
 use Rattle.def_emit.specs.Symbol as shape
-use Rattle.def_emit.specs.Symbol.{Shape, Constant, DispatchId, BufferVariable, Symbol, Of, Entry, Start, SlotVariable, Result}
+use Rattle.def_emit.specs.Symbol.{Constant, DispatchId, BufferVariable, Symbol, Of, SlotVariable, Result}
 use Rattle.def_emit.specs.Globals.{line, shape_id}
 
 -- the id of an integer type

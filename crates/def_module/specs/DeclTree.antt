@@ -95,11 +95,16 @@ pub record TailTree : Type 0 where
   pub name : Token
   pub args : List ArgTree
 
--- a requirement, behind the word `mutating`
+-- the head of a requirement, behind the word `mutating`
 pub record HeadTree : Type 0 where
   pub mutating : Option Token
   pub access : Option AccessTree
   pub tail : TailTree
+
+-- a requirement, and its own body where it has one
+pub record RequireTree : Type 0 where
+  pub head : HeadTree
+  pub body : Option BlockTree
 
 -- a method, behind the words `mutating` and `override`
 pub record MethodTree : Type 0 where
@@ -123,7 +128,7 @@ pub data MemberTree : Type 0 where
 
 -- what stands in an interface
 pub data ItemTree : Type 0 where
-  Require : HeadTree → ItemTree
+  Require : RequireTree → ItemTree
   Assoc : AssocTree → ItemTree
 
 -- a struct, behind the word `struct`

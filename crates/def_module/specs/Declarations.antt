@@ -1,15 +1,15 @@
 -- The grammar of declarations. Parts stand before wholes; the comment of each relation is its production.
-use Rattle.std.specs.Prelude.{◌≡◌, List, ◌∷◌, Option}
+use Rattle.std.specs.Prelude.{◌≡◌, List, ◌∷◌, Option, Some, None}
 use Rattle.def_token.specs.Lexical.{Token}
 use Rattle.def_tree.specs.ExprTree.{ExprTree}
 use Rattle.def_tree.specs.Expressions.{IsExpr}
 use Rattle.def_tree.specs.Statements.{IsStmt, MayHaveType}
 use Rattle.def_tree.specs.StmtTree as stmt
-use Rattle.def_tree.specs.Symbol.{Text, symbol, Is, IsName, IsNumber}
+use Rattle.def_tree.specs.Symbol.{Text, symbol, Is, IsName, IsNumeral, IsNarrow}
 use Rattle.def_tree.specs.TypeTree.{TypeTree}
 use Rattle.def_tree.specs.Types.{IsType}
 use Rattle.def_module.specs.DeclTree as tree
-use Rattle.def_module.specs.DeclTree.{AccessWord, access_text, AccessTree, ImportTree, AliasTree, ConstTree, ParamTree, WhereTree, ModeWord, mode_text, ModeTree, ArgTree, BlockTree, FieldTree, TailTree, HeadTree, MethodTree, AssocTree, MemberTree, ItemTree, StructTree, InterfaceTree, ExtensionTree, BufferKind, buffer_text, BindingTree, BufferTree, AttrTree, FunctionTree, DeclTree}
+use Rattle.def_module.specs.DeclTree.{AccessWord, access_text, AccessTree, ImportTree, AliasTree, ConstTree, ParamTree, WhereTree, ModeWord, mode_text, ModeTree, ArgTree, BlockTree, FieldTree, TailTree, HeadTree, RequireTree, MethodTree, AssocTree, MemberTree, ItemTree, StructTree, InterfaceTree, ExtensionTree, BufferKind, buffer_text, BindingTree, BufferTree, AttrTree, FunctionTree, DeclTree}
 use Rattle.def_module.specs.Repetition.{IsWord, IsNamed, MayBe, MayHave, AreMany, AreListed}
 
 -- the token is a string
@@ -168,11 +168,20 @@ pub data IsAddition : List Token → MemberTree → List Token → Type 0 where
       → IsAlias tokens alias rest
       → IsAddition tokens (tree.MemberAlias alias) rest
 
--- Require = Head ";"
-pub data IsRequire : List Token → HeadTree → List Token → Type 0 where
-  of_require : {semicolon : Token} {tokens rest : List Token} {head : HeadTree}
-      → IsHead tokens head (semicolon ∷ rest) → Is ";" semicolon
-      → IsRequire tokens head rest
+-- ";" | Block
+pub data IsEnding : List Token → Option BlockTree → List Token → Type 0 where
+  without_body : {semicolon : Token} {rest : List Token}
+      → Is ";" semicolon
+      → IsEnding (semicolon ∷ rest) None rest
+  with_body : {tokens rest : List Token} {body : BlockTree}
+      → IsBlock tokens body rest
+      → IsEnding tokens (Some body) rest
+
+-- Require = Head ( ";" | Block )
+pub data IsRequire : List Token → RequireTree → List Token → Type 0 where
+  of_require : {tokens behind rest : List Token} {head : HeadTree} {body : Option BlockTree}
+      → IsHead tokens head behind → IsEnding behind body rest
+      → IsRequire tokens (record { head = head; body = body }) rest
 
 -- Assoc = "associatedtype" Name [ Bases ] ";"
 pub data IsAssoc : List Token → AssocTree → List Token → Type 0 where
@@ -182,9 +191,9 @@ pub data IsAssoc : List Token → AssocTree → List Token → Type 0 where
 
 -- Require | Assoc
 pub data IsItem : List Token → ItemTree → List Token → Type 0 where
-  item_require : {tokens rest : List Token} {head : HeadTree}
-      → IsRequire tokens head rest
-      → IsItem tokens (tree.Require head) rest
+  item_require : {tokens rest : List Token} {require : RequireTree}
+      → IsRequire tokens require rest
+      → IsItem tokens (tree.Require require) rest
   item_assoc : {tokens rest : List Token} {assoc : AssocTree}
       → IsAssoc tokens assoc rest
       → IsItem tokens (tree.Assoc assoc) rest
@@ -246,18 +255,18 @@ pub data IsExtension : List Token → ExtensionTree → List Token → Type 0 wh
         semicolon = semicolon;
       }) rest
 
--- "," Number
+-- "," Number, of a type of 32 bits
 pub data IsSet : List Token → Token → List Token → Type 0 where
   of_set : {comma number : Token} {rest : List Token}
-      → Is "," comma → IsNumber number
+      → Is "," comma → IsNarrow number
       → IsSet (comma ∷ number ∷ rest) number rest
 
--- "[" "[" "vk" "::" "binding" "(" Number [ "," Number ] ")" "]" "]"
+-- "[" "[" "vk" "::" "binding" "(" Number [ "," Number ] ")" "]" "]", with numbers of types of 32 bits
 pub data IsBinding : List Token → BindingTree → List Token → Type 0 where
   of_binding : {first second vendor colons word opening number closing third fourth : Token} {tokens rest : List Token}
       {set : Option Token}
       → Is "[" first → Is "[" second → Is "vk" vendor → Is "::" colons → Is "binding" word → Is "(" opening
-      → IsNumber number → MayBe IsSet tokens set (closing ∷ third ∷ fourth ∷ rest)
+      → IsNarrow number → MayBe IsSet tokens set (closing ∷ third ∷ fourth ∷ rest)
       → Is ")" closing → Is "]" third → Is "]" fourth
       → IsBinding (first ∷ second ∷ vendor ∷ colons ∷ word ∷ opening ∷ number ∷ tokens)
       (record { opening = first; number = number; set = set }) rest
@@ -286,7 +295,7 @@ pub data IsAttr : List Token → AttrTree → List Token → Type 0 where
       → IsAttr (first ∷ word ∷ opening ∷ stage ∷ closing ∷ last ∷ rest) (tree.Shader first word stage) rest
   of_threads : {first word opening x comma y mark z closing last : Token} {rest : List Token}
       → Is "[" first → Is "numthreads" word → Is "(" opening
-      → IsNumber x → Is "," comma → IsNumber y → Is "," mark → IsNumber z → Is ")" closing → Is "]" last
+      → IsNumeral x → Is "," comma → IsNumeral y → Is "," mark → IsNumeral z → Is ")" closing → Is "]" last
       → IsAttr (first ∷ word ∷ opening ∷ x ∷ comma ∷ y ∷ mark ∷ z ∷ closing ∷ last ∷ rest)
       (tree.NumThreads first word x y z) rest
 

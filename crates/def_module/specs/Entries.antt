@@ -9,7 +9,7 @@ use Rattle.def_token.specs.Lexical.{Token}
 use Rattle.def_tree.specs.Limits.{Entry, Nesting, all_open, in_block, in_bracket, plain, opens, word_entries, maybe_type_entries, type_entries, whole_entries, stmt_entries}
 use Rattle.def_tree.specs.StmtTree as stmt
 use Rattle.def_tree.specs.TypeTree.{TypeTree}
-use Rattle.def_module.specs.DeclTree.{AccessTree, ImportTree, AliasTree, ConstTree, ParamTree, WhereTree, ArgTree, BlockTree, FieldTree, TailTree, HeadTree, MethodTree, AssocTree, MemberTree, Field, Method, MemberAlias, ItemTree, Require, Assoc, StructTree, InterfaceTree, ExtensionTree, BindingTree, BufferTree, AttrTree, Shader, NumThreads, FunctionTree, DeclTree, Import, Alias, Const, Struct, Interface, Extension, Buffer, Function, ModuleTree}
+use Rattle.def_module.specs.DeclTree.{AccessTree, ImportTree, AliasTree, ConstTree, ParamTree, WhereTree, ArgTree, BlockTree, FieldTree, TailTree, HeadTree, RequireTree, MethodTree, AssocTree, MemberTree, Field, Method, MemberAlias, ItemTree, Require, Assoc, StructTree, InterfaceTree, ExtensionTree, BindingTree, BufferTree, AttrTree, Shader, NumThreads, FunctionTree, DeclTree, Import, Alias, Const, Struct, Interface, Extension, Buffer, Function, ModuleTree}
 
 -- the entry of a form that is one token
 abbrev pub one_entry : {A : Type 0} → A → List Entry
@@ -124,9 +124,14 @@ member_entries around (Field field) = field_entries around field
 member_entries around (Method method) = method_entries around method
 member_entries around (MemberAlias alias) = alias_entries around alias
 
+-- the entries of what a requirement ends with: its own body, or the semicolon
+abbrev pub ending_entries : Nesting → Option BlockTree → List Entry
+ending_entries around None = plain ∷ []
+ending_entries around (Some body) = block_entries around body
+
 -- the entries of a requirement
-abbrev pub require_entries : Nesting → HeadTree → List Entry
-require_entries around head = head_entries around head ++ plain ∷ []
+abbrev pub require_entries : Nesting → RequireTree → List Entry
+require_entries around require = head_entries around require.head ++ ending_entries around require.body
 
 -- the entries of an associated type
 abbrev pub assoc_entries : Nesting → AssocTree → List Entry
@@ -134,7 +139,7 @@ assoc_entries around assoc = plain ∷ plain ∷ (bases_entries around assoc.bas
 
 -- the entries of an item of an interface
 abbrev pub item_entries : Nesting → ItemTree → List Entry
-item_entries around (Require head) = require_entries around head
+item_entries around (Require require) = require_entries around require
 item_entries around (Assoc assoc) = assoc_entries around assoc
 
 -- the entries of forms in braces, which are a block, and of the semicolon behind them

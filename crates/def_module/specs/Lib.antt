@@ -1,7 +1,7 @@
-pub mod Built
 pub mod Declarations
 pub mod DeclTree
 pub mod Entries
+pub mod First
 pub mod Laws
 pub mod Module
 pub mod Repetition

@@ -4,7 +4,7 @@
 -- each statement behind `if (..)`, `else`, `while (..)` and `for (..)`, what stands in a struct, an interface or an
 -- extension, and the module. Scopes are in the order in which they end: one that stands in another comes before it, and
 -- the module comes last.
-use Rattle.std.specs.Prelude.{Bool, true, false, List, [], ◌∷◌, ◌++◌, map}
+use Rattle.std.specs.Prelude.{Bool, true, false, List, [], ◌∷◌, ◌++◌, map, Option, Some, None}
 use Rattle.std.specs.List.{flat_map}
 use Rattle.def_token.specs.Lexical.{Token}
 use Rattle.def_tree.specs.StmtTree as stmt
@@ -75,6 +75,11 @@ abbrev mutual
 abbrev pub body_scopes : BlockTree → List Scope
 body_scopes body = stmt_scopes (stmt.Block body.opening body.stmts)
 
+-- the scopes of a body, if there is one
+abbrev pub maybe_body_scopes : Option BlockTree → List Scope
+maybe_body_scopes None = []
+maybe_body_scopes (Some body) = body_scopes body
+
 -- the scope of type parameters
 abbrev pub params_scope : List ParamTree → Scope
 params_scope params = map (λ (param : ParamTree). single param.name) params
@@ -97,12 +102,12 @@ member_scopes (MemberAlias alias) = []
 
 -- what an item of an interface declares
 abbrev pub item_names : ItemTree → Scope
-item_names (Require head) = called head.tail.name ∷ []
+item_names (Require require) = called require.head.tail.name ∷ []
 item_names (Assoc assoc) = single assoc.name ∷ []
 
 -- the scopes inside an item of an interface
 abbrev pub item_scopes : ItemTree → List Scope
-item_scopes (Require head) = args_scope head.tail.args ∷ []
+item_scopes (Require require) = args_scope require.head.tail.args ∷ maybe_body_scopes require.body
 item_scopes (Assoc assoc) = []
 
 -- what a declaration declares in its module; an import and an extension declare nothing

@@ -48,6 +48,11 @@ IsDeclaredTwice tree name = IsFirst (module_scopes tree) name
 abbrev pub DeclaresOnce : ModuleTree → Type 0
 DeclaresOnce tree = AreFree (module_scopes tree)
 
+-- what a module declares twice: this name, if there is one
+abbrev pub DeclaresTwice : ModuleTree → Option Token → Type 0
+DeclaresTwice tree None = DeclaresOnce tree
+DeclaresTwice tree (Some name) = IsDeclaredTwice tree name
+
 -- the first of these that clashes with one before it, where others stand before them
 abbrev pub second_behind : Scope → Scope → Option Token
 second_behind before [] = None
@@ -69,6 +74,6 @@ abbrev pub declared_twice : ModuleTree → Option Token
 declared_twice tree = first_some (map second_name (module_scopes tree))
 
 -- the function tells a name exactly where a module declares it twice, and none where it declares none twice
-pub record IsTold (tree : ModuleTree) : Type 0 where
+pub record TellsTwice (tree : ModuleTree) : Type 0 where
   pub twice : (name : Token) → (declared_twice tree ≡ Some name) ↔ IsDeclaredTwice tree name
   pub once : (declared_twice tree ≡ None) ↔ DeclaresOnce tree

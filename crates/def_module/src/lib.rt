@@ -1,6 +1,4 @@
-//! What the syntax trees of modules are: the grammar of declarations, its limits, and what is told of a module.
+//! What the syntax trees of modules are: the grammar of declarations, its limits, scopes, and what is told of a module.
 //!
-//! This crate holds definitions (`specs/`) and laws about them.
+//! This crate holds definitions alone (`specs/`).
 #![tactic(auto)]
-
-pub mod laws;

@@ -1,7 +1,7 @@
 -- What the laws say.
 pub mod Laws
 -- How tokens are read, from places on the way to whole forms.
-pub mod Place
+pub mod Cursor
 pub mod TypeReading
 pub mod TypeAhead
 pub mod Machine

@@ -5,7 +5,7 @@ use Rattle.def_token.specs.Lexical.{Token}
 use Rattle.def_tree.specs.ExprTree as tree
 use Rattle.def_tree.specs.ExprTree.{ExprTree, NoExprs}
 use Rattle.def_tree.specs.Statements.{is_call}
-use Rattle.def_reading.specs.Machine.{Frame, Prefix, Casting, Left, Asked, Chosen, InGroup, InConversion, InCall, InIndex, Mode, Expected, Value, Dotted, Converting, Config, Step, On, Ends, Refused, Held}
+use Rattle.def_reading.specs.Machine.{Frame, Prefix, Casting, Left, Asked, Chosen, InGroup, InFunctionalCast, InCall, InIndex, Mode, Expected, Value, Dotted, Converting, Config, Step, On, Ends, Refused, Held}
 use Rattle.def_reading.specs.Try.{Try, Reads, Stops}
 
 -- a token that stands for any
@@ -45,7 +45,7 @@ plain_frame (Left left operator token) = Left leaf operator token
 plain_frame (Asked condition question) = Asked leaf question
 plain_frame (Chosen condition question yes') = Chosen leaf question leaf
 plain_frame (InGroup opening) = InGroup opening
-plain_frame (InConversion word token) = InConversion word token
+plain_frame (InFunctionalCast word token) = InFunctionalCast word token
 plain_frame (InCall callee opening args) = InCall leaf opening (plain_args args)
 plain_frame (InIndex base opening) = InIndex leaf opening
 

@@ -11,9 +11,9 @@ use Rattle.def_tree.specs.StmtTree.{Binding, Let, Var, Declarator, InitTree, Loc
 use Rattle.def_tree.specs.Symbol.{symbol, is_sign}
 use Rattle.def_tree.specs.TypeTree.{TypeTree}
 use Rattle.def_reading.specs.Machine.{sign_of, written}
-use Rattle.def_reading.specs.Place.{Place, At, passed, Reach}
+use Rattle.def_reading.specs.Cursor.{Cursor, At, passed, FarthestFailure}
 use Rattle.def_reading.specs.Try.{Try, Reads, Reader, try_then, try_as, or_else, refused, opened, choice, token_then, up_to, listed, ahead, expr_in, type_in, read_by}
-use Rattle.def_reading.specs.TypeAhead.{Look, Found, Missing, names, type_ahead}
+use Rattle.def_reading.specs.TypeAhead.{LookAhead, Found, Missing, names, type_ahead}
 use Rattle.def_reading.specs.TypeReading.{Reading}
 
 -- initialisers
@@ -98,18 +98,18 @@ assignment_at tokens = written assignment_text assignments (sign_at tokens).0
 
 -- an expression alone is a call
 abbrev pub alone_by : Bool → ExprTree → Reader SimpleTree
-alone_by true call reach place = Reads (tree.Alone call) place reach
+alone_by true call reach place = Reads (tree.CallStatement call) place reach
 alone_by false call reach place = refused reach place
 
 -- an expression with no assignment behind it
 abbrev pub stepped_in : ExprTree → Reader SimpleTree
 stepped_in expr =
-    choice (is_sign "++") plain (λ token reach place. Reads (tree.StepBehind Increment expr token) place reach)
-    (choice (is_sign "--") plain (λ token reach place. Reads (tree.StepBehind Decrement expr token) place reach)
+    choice (is_sign "++") plain (λ token reach place. Reads (tree.PostfixStep Increment expr token) place reach)
+    (choice (is_sign "--") plain (λ token reach place. Reads (tree.PostfixStep Decrement expr token) place reach)
     (alone_by (is_call expr) expr))
 
 -- an assignment of an expression, or what else stands behind it
-abbrev pub assigned_by : Nesting → Option Assignment → ExprTree → Option Reach → Token → Place → Try SimpleTree
+abbrev pub assigned_by : Nesting → Option Assignment → ExprTree → Option FarthestFailure → Token → Cursor → Try SimpleTree
 assigned_by around None expr reach token place = stepped_in expr reach place
 assigned_by around (Some assignment) expr reach token place =
     try_as (tree.Assign assignment token expr)
@@ -125,9 +125,9 @@ assigned_in around expr reach (At at limit (token ∷ tokens)) =
 abbrev pub simple_in : Nesting → Reader SimpleTree
 simple_in around =
     choice (is_sign "++") plain
-    (λ token reach place. try_as (tree.StepBefore Increment token) (expr_in false around reach place))
+    (λ token reach place. try_as (tree.PrefixStep Increment token) (expr_in false around reach place))
     (choice (is_sign "--") plain
-    (λ token reach place. try_as (tree.StepBefore Decrement token) (expr_in false around reach place))
+    (λ token reach place. try_as (tree.PrefixStep Decrement token) (expr_in false around reach place))
     (λ reach place. try_then (assigned_in around) (expr_in true around reach place)))
 
 -- a name and `=` behind it
@@ -136,12 +136,12 @@ names_a_value [] = false
 names_a_value (name ∷ tokens) = names (symbol name) && begins_with "=" tokens
 
 -- a name and `=` stand behind a type that is found
-abbrev pub values_behind : Look TypeTree → Bool
+abbrev pub values_behind : LookAhead TypeTree → Bool
 values_behind (Found type place) = names_a_value (ahead place)
 values_behind (Missing place) = false
 
 -- A type, a name and `=` stand at a place: whatever else goes on there is a local.
-abbrev pub declares : Nesting → Place → Bool
+abbrev pub declares : Nesting → Cursor → Bool
 declares around place = values_behind (type_ahead (length (ahead place)) around.types place)
 
 -- a local up to a semicolon
@@ -278,7 +278,7 @@ module _ (around : Nesting) (stmt : Nesting → Reader StmtTree) where
   opening_entry Brace = opens (in_block around).blocks
   opening_entry _ = plain
 
-  abbrev pub stmt_by : Option Opening → Option Reach → Token → Place → Try StmtTree
+  abbrev pub stmt_by : Option Opening → Option FarthestFailure → Token → Cursor → Try StmtTree
   stmt_by None reach token place = either_in tree.Local tree.Simple around reach place
   stmt_by (Some opening) reach token place = behind_in opening token reach (passed (opening_entry opening ∷ []) place)
 

@@ -9,18 +9,18 @@ use Rattle.def_tree.specs.Operator.{sign_at}
 use Rattle.def_tree.specs.Symbol.{Symbol, symbol, is_sign}
 use Rattle.def_tree.specs.TypeTree.{TypeTree}
 use Rattle.def_reading.specs.Machine.{Mode, Expected, Value, Dotted, Converting, Config, Step, On, Ends, Refused, step}
-use Rattle.def_reading.specs.Place.{Told, Place, At, told_at, noted, advance, passed, before, earlier, Reach, reach_at, further}
-use Rattle.def_reading.specs.TypeAhead.{Look, Found, Missing, type_ahead}
+use Rattle.def_reading.specs.Cursor.{Told, Cursor, At, told_at, noted, advance, passed, before, earlier, FarthestFailure, reach_at, further}
+use Rattle.def_reading.specs.TypeAhead.{LookAhead, Found, Missing, type_ahead}
 use Rattle.def_reading.specs.TypeReading.{Reading, nowhere}
 
 -- a tree, the place behind it, and how far other ways go; or how far tokens are read where there is none
 pub data Try (A : Type 0) : Type 0 where
-  Reads : A → Place → Option Reach → Try A
-  Stops : Option Reach → Try A
+  Reads : A → Cursor → Option FarthestFailure → Try A
+  Stops : Option FarthestFailure → Try A
 
 -- what is read at a place, beside other ways
 abbrev pub Reader : Type 0 → Type 0
-Reader A = Option Reach → Place → Try A
+Reader A = Option FarthestFailure → Cursor → Try A
 
 -- what is read behind something
 abbrev pub try_then : {A B : Type 0} → (A → Reader B) → Try A → Try B
@@ -33,12 +33,12 @@ try_as make (Reads a place reach) = Reads (make a) place reach
 try_as make (Stops reach) = Stops reach
 
 -- what is read, or else what is read at the same place in another way
-abbrev pub or_else : {A : Type 0} → Reader A → Place → Try A → Try A
+abbrev pub or_else : {A : Type 0} → Reader A → Cursor → Try A → Try A
 or_else other start (Reads a place reach) = Reads a place reach
 or_else other start (Stops reach) = other reach start
 
 -- the place, with the first limit that ends before it
-abbrev pub settled : Place → Place
+abbrev pub settled : Cursor → Cursor
 settled (At at limit tokens) = At at (before at limit) tokens
 
 -- no token goes on at the place
@@ -46,13 +46,13 @@ abbrev pub refused : {A : Type 0} → Reader A
 refused reach place = Stops (further reach (reach_at None 0 (settled place)))
 
 -- the place, where something more ends at its first token
-abbrev pub opened : Entry → Place → Place
+abbrev pub opened : Entry → Cursor → Cursor
 opened entry (At at limit []) = At at limit []
 opened entry (At at limit (token ∷ tokens)) = At at (noted limit entry at token) (token ∷ tokens)
 
 -- what is read behind a token with this entry that passes a test, or else what is read at the token
 abbrev pub choice_by : {A : Type 0}
-    → Bool → Entry → (Token → Reader A) → Reader A → Option Reach → Token → Place → Try A
+    → Bool → Entry → (Token → Reader A) → Reader A → Option FarthestFailure → Token → Cursor → Try A
 choice_by true entry yes' no' reach token place = yes' token reach (advance entry place)
 choice_by false entry yes' no' reach token place = no' reach place
 
@@ -80,24 +80,24 @@ listed more none part (suc turns) reach place =
     (part reach place)
 
 -- the tokens of a place
-abbrev pub ahead : Place → List Token
+abbrev pub ahead : Cursor → List Token
 ahead (At at limit tokens) = tokens
 
 -- where an expression with these tokens is too long, if they are so many
-abbrev pub long_from : Place → Option Told
+abbrev pub long_from : Cursor → Option Told
 long_from (At at limit tokens) = told_at (code_of Long) (at + greatest_length) (drop greatest_length tokens)
 
 -- the place, and how far it goes, behind an expression that is too long at `long`
-abbrev pub finished : Option Told → Place → Place
+abbrev pub finished : Option Told → Cursor → Cursor
 finished long (At at limit tokens) = At at (earlier limit (before at long)) tokens
 
 -- how far a place is, if expressions are too long at `long`
-abbrev pub reach_in : Option Told → Place → Option Reach
+abbrev pub reach_in : Option Told → Cursor → Option FarthestFailure
 reach_in long (At at limit tokens) = reach_at long at (At at limit tokens)
 
 -- Other ways, by whether an assignment may stand behind the expression: if it may not, an expression does not end
 -- before `>>=`.
-abbrev pub way_by : Bool → Mode → Option Reach → Option Reach
+abbrev pub way_by : Bool → Mode → Option FarthestFailure → Option FarthestFailure
 way_by true mode other = other
 way_by false Expected other = other
 way_by false (Value value) other = None
@@ -114,23 +114,23 @@ module _ (around : Nesting) (assigns : Bool) (long : Option Told) where
   abbrev pub refused_in : Reader ExprTree
   refused_in reach place = Stops (further reach (reach_in long (settled place)))
 
-  abbrev pub end_by : Bool → Option Reach → ExprTree → Place → Try ExprTree
+  abbrev pub end_by : Bool → Option FarthestFailure → ExprTree → Cursor → Try ExprTree
   end_by true reach expr place = refused_in reach (passed (plain ∷ plain ∷ []) place)
   end_by false reach expr place = Reads expr (finished long place) reach
 
   -- what a step comes to, if what is behind it comes to this
-  abbrev pub run_by : (Option Reach → Config → Try ExprTree) → Mode → Option Reach → Step → Try ExprTree
+  abbrev pub run_by : (Option FarthestFailure → Config → Try ExprTree) → Mode → Option FarthestFailure → Step → Try ExprTree
   run_by more mode reach (On other config) = more (further reach (way_by assigns mode other)) config
   run_by more mode reach (Ends expr place) = end_by (assign_ends assigns (ahead place)) reach expr place
   run_by more mode reach (Refused place) = refused_in reach place
 
   -- what the machine comes to in at most so many steps
-  abbrev pub run : ℕ → Option Reach → Config → Try ExprTree
+  abbrev pub run : ℕ → Option FarthestFailure → Config → Try ExprTree
   run zero reach config = refused_in reach config.place
   run (suc turns) reach config = run_by (run turns) config.mode reach (step around long config)
 
 -- the machine at a place
-abbrev pub started : Place → Config
+abbrev pub started : Cursor → Config
 started place = record { frames = []; mode = Expected; place = place }
 
 -- a whole expression, behind which an assignment may stand or not
@@ -139,7 +139,7 @@ expr_in assigns around reach place =
     run around assigns (long_from place) (suc (length (ahead place))) reach (started place)
 
 -- what a look for types comes to, beside other ways
-abbrev pub look_by : {A : Type 0} → Option Reach → Look A → Try A
+abbrev pub look_by : {A : Type 0} → Option FarthestFailure → LookAhead A → Try A
 look_by reach (Found a place) = Reads a place reach
 look_by reach (Missing place) = refused reach place
 
@@ -157,10 +157,6 @@ read_by (Reads a (At at None rest) reach) = Ok (a, rest)
 read_by (Reads a (At at (Some told) rest) reach) = told_to told
 read_by (Stops None) = nowhere
 read_by (Stops (Some reach)) = told_to reach.told
-
--- a type inside what is open
-abbrev pub type_of : Nesting → List Token → Reading TypeTree
-type_of around tokens = read_by (type_in around None (At 0 None tokens))
 
 -- an expression inside what is open
 abbrev pub expr_of : Nesting → List Token → Reading ExprTree

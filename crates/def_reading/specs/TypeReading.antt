@@ -4,7 +4,7 @@ use Rattle.std.specs.Str.{bytes_eq}
 use Rattle.def_token.specs.Lexical as lexical
 use Rattle.def_token.specs.Lexical.{Token}
 use Rattle.def_tree.specs.Symbol.{Symbol, Name, Number, Text, End, Sign, symbol}
-use Rattle.def_tree.specs.TypeTree.{TypeWord, Int, Uint, Bool', Void, Uint3, This, word_text}
+use Rattle.def_tree.specs.TypeTree.{TypeWord, type_words, word_text}
 
 -- the token at which a reader stops, and the code of what is told there
 pub record Stop : Type 0 where
@@ -48,7 +48,7 @@ lead_among (word ∷ words) text = lead_by (bytes_eq text (codes (word_text word
 -- what a symbol begins
 abbrev pub lead_of : Symbol → Lead
 lead_of Name = AName
-lead_of Number = NoType
+lead_of (Number wide) = NoType
 lead_of Text = NoType
 lead_of End = NoType
-lead_of (Sign text) = lead_among (Int ∷ Uint ∷ Bool' ∷ Void ∷ Uint3 ∷ This ∷ []) text
+lead_of (Sign text) = lead_among type_words text

@@ -12,7 +12,7 @@ keywords =
     ∷ codes "where" ∷ codes "mutating" ∷ codes "override" ∷ codes "associatedtype"
     ∷ codes "in" ∷ codes "inout" ∷ codes "vk" ∷ codes "binding"
     ∷ codes "StructuredBuffer" ∷ codes "RWStructuredBuffer" ∷ codes "shader" ∷ codes "numthreads"
-    ∷ codes "int" ∷ codes "uint" ∷ codes "bool" ∷ codes "void" ∷ codes "uint3" ∷ codes "This"
+    ∷ codes "int" ∷ codes "uint" ∷ codes "int64_t" ∷ codes "uint64_t" ∷ codes "bool" ∷ codes "void" ∷ codes "uint3" ∷ codes "This"
     ∷ codes "return" ∷ codes "break" ∷ codes "continue" ∷ codes "if" ∷ codes "else" ∷ codes "while" ∷ codes "for"
     ∷ codes "let" ∷ codes "var" ∷ codes "true" ∷ codes "false" ∷ codes "this"
     ∷ []

@@ -2,23 +2,21 @@
 use Rattle.std.specs.Prelude.{ℕ, List, Option, Some, None, Result, Ok, Err}
 use Rattle.def_token.specs.Lexical.{Fault, Token}
 use Rattle.def_tree.specs.Fault.{fault_at}
-use Rattle.def_module.specs.Built.{not_built}
 use Rattle.def_module.specs.DeclTree.{ModuleTree}
-use Rattle.def_module.specs.Syntax.{Answer, Good, Bad, twice, unbuilt}
+use Rattle.def_module.specs.Syntax.{Answer, Good, Bad, twice}
 use Rattle.def_module.specs.Twice.{declared_twice}
 use Rattle.def_reading.specs.TypeReading.{Reading}
 use Rattle.def_decl_reading.specs.DeclReading.{module_of}
-use Rattle.def_syntax.specs.Lexed.{lexed}
+use Rattle.def_token.specs.Lexed.{lexed}
 
--- what is told of a module, by the name that it declares twice and the first token of what is not built yet
-abbrev pub answer_by : Option Token → Option Token → ModuleTree → Answer
-answer_by (Some name) token tree = Bad (twice name)
-answer_by None (Some token) tree = Bad (unbuilt token)
-answer_by None None tree = Good tree
+-- what is told of a module, by the name that it declares twice
+abbrev pub answer_by : Option Token → ModuleTree → Answer
+answer_by (Some name) tree = Bad (twice name)
+answer_by None tree = Good tree
 
 -- what is told of a module within the limits
 abbrev pub answer_of : ModuleTree → Answer
-answer_of tree = answer_by (declared_twice tree) (not_built tree) tree
+answer_of tree = answer_by (declared_twice tree) tree
 
 -- what is told of what is read
 abbrev pub answer_read : Reading ModuleTree → Answer

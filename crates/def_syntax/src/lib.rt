@@ -1,6 +1,4 @@
-//! What is told of a text, as a function: its tokens or its first lexical fault, its tree or its fault.
+//! What is told of a text, as a function: its tree, or its fault. `law_syntax` proves that it is what the grammar says.
 //!
-//! This crate holds definitions (`specs/`) and laws about them.
+//! This crate holds definitions alone (`specs/`).
 #![tactic(auto)]
-
-pub mod laws;

@@ -142,7 +142,7 @@ pub record HasTokens (text : List ℕ) (tokens : List Token) : Type 0 where
   pub tokens_are : tokens ≡ tokens_among (mark_before text) pieces ++ token_behind text End [] ∷ []
 
 -- Behind a byte order mark the text is pieces without a fault, and then a piece with this one.
-pub record HasFault (text : List ℕ) (fault : Fault) : Type 0 where
+pub record HasLexicalFault (text : List ℕ) (fault : Fault) : Type 0 where
   pub pieces : List Piece
   pub rest : List ℕ
   pub piece : Piece
@@ -157,8 +157,8 @@ pub record HasFault (text : List ℕ) (fault : Fault) : Type 0 where
 -- A text has at most one list of tokens and at most one fault, and not both.
 pub record IsDetermined (text : List ℕ) : Type 0 where
   pub tokens : (these others : List Token) → HasTokens text these → HasTokens text others → these ≡ others
-  pub fault : (this other : Fault) → HasFault text this → HasFault text other → this ≡ other
-  pub one : (tokens : List Token) (fault : Fault) → HasTokens text tokens → HasFault text fault → ⊥
+  pub fault : (this other : Fault) → HasLexicalFault text this → HasLexicalFault text other → this ≡ other
+  pub one : (tokens : List Token) (fault : Fault) → HasTokens text tokens → HasLexicalFault text fault → ⊥
 
 -- each text is determined
 abbrev pub TextsAreDetermined : Type 0

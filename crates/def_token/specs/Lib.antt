@@ -1,3 +1,4 @@
+pub mod Lexed
 pub mod Lexeme
 pub mod Lexical
 pub mod Mark

@@ -10,6 +10,8 @@ use Rattle.std.specs.Str.Parse.{digits_value}
 pub data NumberType : Type 0 where
   Int : NumberType
   Uint : NumberType
+  Int64 : NumberType
+  Uint64 : NumberType
 
 -- what a number is
 pub record Number : Type 0 where
@@ -39,12 +41,25 @@ int = (Int, 2147483647)
 abbrev pub uint : Range
 uint = (Uint, 4294967295)
 
+-- an int64_t, up to 0x7FFFFFFFFFFFFFFF
+abbrev pub int64 : Range
+int64 = (Int64, 9223372036854775807)
+
+-- a uint64_t, up to 0xFFFFFFFFFFFFFFFF
+abbrev pub uint64 : Range
+uint64 = (Uint64, 18446744073709551615)
+
+-- a suffix with which a number has this type, however it is written
+abbrev pub of_type : List ℕ → Range → Suffix
+of_type text range = record { text = text; decimal = range ∷ []; hexadecimal = range ∷ [] }
+
 -- the table of suffixes, of which the first is none
 abbrev pub suffixes : List Suffix
 suffixes =
     record { text = []; decimal = int ∷ []; hexadecimal = int ∷ uint ∷ [] }
-    ∷ record { text = codes "u"; decimal = uint ∷ []; hexadecimal = uint ∷ [] }
-    ∷ record { text = codes "U"; decimal = uint ∷ []; hexadecimal = uint ∷ [] }
+    ∷ of_type (codes "u") uint ∷ of_type (codes "U") uint
+    ∷ of_type (codes "ll") int64 ∷ of_type (codes "LL") int64
+    ∷ of_type (codes "ull") uint64 ∷ of_type (codes "ULL") uint64
     ∷ []
 
 -- what stands before the digits

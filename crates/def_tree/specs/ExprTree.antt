@@ -8,10 +8,10 @@ use Rattle.def_tree.specs.TypeTree.{TypeTrees, TypeWord}
 mutual
   pub data ExprTree : Type 0 where
     Number : Token → ExprTree
-    Truth : Bool → Token → ExprTree
+    BooleanLiteral : Bool → Token → ExprTree
     Itself : Token → ExprTree
     Name : Token → TypeTrees → ExprTree
-    Conversion : TypeWord → Token → ExprTree → ExprTree
+    FunctionalCast : TypeWord → Token → ExprTree → ExprTree
     OwnType : Token → ExprTree
     Group : Token → ExprTree → ExprTree
     Call : ExprTree → Token → ExprTrees → ExprTree
@@ -29,10 +29,10 @@ mutual
 -- the token with which an expression begins
 abbrev pub first_token : ExprTree → Token
 first_token (Number token) = token
-first_token (Truth value token) = token
+first_token (BooleanLiteral value token) = token
 first_token (Itself token) = token
 first_token (Name token args) = token
-first_token (Conversion word token operand) = token
+first_token (FunctionalCast word token operand) = token
 first_token (OwnType token) = token
 first_token (Group opening inner) = opening
 first_token (Call callee opening args) = first_token callee

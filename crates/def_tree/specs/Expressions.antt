@@ -1,7 +1,7 @@
 -- The grammar of expressions.
 use Rattle.std.specs.Prelude.{◌≡◌, ◌⊎◌, ℕ, suc, ◌≤◌, true, false, List, ◌∷◌, IsTrue, codes}
 use Rattle.def_token.specs.Lexical.{Token}
-use Rattle.def_tree.specs.Symbol.{Is, IsName, IsNumber}
+use Rattle.def_tree.specs.Symbol.{Is, IsName, IsNumeral}
 use Rattle.def_tree.specs.TypeTree.{TypeWord, word_text, is_scalar, TypeTrees, NoTypes}
 use Rattle.def_tree.specs.Types.{IsTypeArgs}
 use Rattle.def_tree.specs.Operator.{Operator, operator_text, level, UnaryOperator, unary_text, sign_at}
@@ -25,19 +25,19 @@ abbrev pub TakesNone : List Token → Type 0
 TakesNone tokens = (args : TypeTrees) (rest : List Token) → TakesTypeArgs tokens args rest → ⊥
 
 mutual
-  -- Primary = Number | "true" | "false" | "this" | Name [ TypeArgs ] | ( "int" | "uint" | "bool" ) "(" Expr ")"
-  --         | "This" | "(" Expr ")"
+  -- Primary = Number | "true" | "false" | "this" | Name [ TypeArgs ] | "This" | "(" Expr ")"
+  --         | ( "int" | "uint" | "int64_t" | "uint64_t" | "bool" ) "(" Expr ")"
   -- A name takes type arguments exactly where it can.
   pub data IsPrimary : List Token → ExprTree → List Token → Type 0 where
     of_number : {token : Token} {rest : List Token}
-        → IsNumber token
+        → IsNumeral token
         → IsPrimary (token ∷ rest) (tree.Number token) rest
     of_true : {token : Token} {rest : List Token}
         → Is "true" token
-        → IsPrimary (token ∷ rest) (tree.Truth true token) rest
+        → IsPrimary (token ∷ rest) (tree.BooleanLiteral true token) rest
     of_false : {token : Token} {rest : List Token}
         → Is "false" token
-        → IsPrimary (token ∷ rest) (tree.Truth false token) rest
+        → IsPrimary (token ∷ rest) (tree.BooleanLiteral false token) rest
     of_itself : {token : Token} {rest : List Token}
         → Is "this" token
         → IsPrimary (token ∷ rest) (tree.Itself token) rest
@@ -47,10 +47,10 @@ mutual
     of_generic : {token : Token} {tokens rest : List Token} {args : TypeTrees}
         → IsName token → TakesTypeArgs tokens args rest
         → IsPrimary (token ∷ tokens) (tree.Name token args) rest
-    of_conversion : {word : TypeWord} {token opening closing : Token} {tokens rest : List Token} {operand : ExprTree}
+    of_functional_cast : {word : TypeWord} {token opening closing : Token} {tokens rest : List Token} {operand : ExprTree}
         → IsTrue (is_scalar word) → Is (word_text word) token
         → Is "(" opening → IsExpr tokens operand (closing ∷ rest) → Is ")" closing
-        → IsPrimary (token ∷ opening ∷ tokens) (tree.Conversion word token operand) rest
+        → IsPrimary (token ∷ opening ∷ tokens) (tree.FunctionalCast word token operand) rest
     of_own_type : {token : Token} {rest : List Token}
         → Is "This" token
         → IsPrimary (token ∷ rest) (tree.OwnType token) rest
@@ -92,7 +92,8 @@ mutual
         → IsExpr tokens expr (comma ∷ behind) → Is "," comma → IsExprList behind exprs rest
         → IsExprList tokens (MoreExprs expr exprs) rest
 
-  -- Unary = ( "-" | "+" | "!" | "~" ) Unary | "(" ( "int" | "uint" | "bool" ) ")" Unary | Postfix
+  -- Unary = ( "-" | "+" | "!" | "~" ) Unary | "(" ( "int" | "uint" | "int64_t" | "uint64_t" | "bool" ) ")" Unary
+  --       | Postfix
   pub data IsUnary : List Token → ExprTree → List Token → Type 0 where
     of_operator : {operator : UnaryOperator} {token : Token} {tokens rest : List Token} {operand : ExprTree}
         → Is (unary_text operator) token → IsUnary tokens operand rest

@@ -11,10 +11,10 @@ pub record Spot : Type 0 where
   pub at : ℕ
   pub code : ℕ
 
--- one spot stands before another, or is the same; at one token the lesser code stands first
+-- one spot stands before another, or is the same; at one token E112 stands before E111, which is told of the two
 pub data IsUpTo (this other : Spot) : Type 0 where
   at_an_earlier : this.at < other.at → IsUpTo this other
-  at_the_same : this.at ≡ other.at → this.code ≤ other.code → IsUpTo this other
+  at_the_same : this.at ≡ other.at → other.code ≤ this.code → IsUpTo this other
 
 -- the code of a limit
 abbrev pub code_of : Limit → ℕ
@@ -58,6 +58,14 @@ module _ {Tree : Type 0} (IsPart : List Token → Tree → List Token → Type 0
       (tokens rest behind : List Token) (this other : Tree)
       → IsPart tokens this rest → IsPart tokens other behind → (this ≡ other) × (rest ≡ behind)
 
+  -- So many of the tokens are continued by a tree, and no more of them by any.
+  pub record IsFurthest (tokens : List Token) (many : ℕ) : Type 0 where
+    pub within : many ≤ length tokens
+    pub tree : Tree
+    pub reached : Continues (take many tokens) tree
+    pub furthest : (more : ℕ) → many < more → more ≤ length tokens
+        → (other : Tree) → Continues (take more tokens) other → ⊥
+
 module _ {Tree : Type 0} (IsPart : List Token → Tree → List Token → Type 0) (entries_of : Tree → List Entry) where
   -- Each tree that continues so many of the tokens is refused at its own spot: at the first limit that ends on the way,
   -- and else at the token behind them. The last of these spots is the one, if it stays so: as long as any tree continues
@@ -87,6 +95,18 @@ module _ {Tree : Type 0} (IsPart : List Token → Tree → List Token → Type 0
     pub token : Token
     pub stands : slice_get tokens spot.at ≡ Some token
     pub told : fault ≡ fault_at spot.code token
+
+  -- Of the trees that continue so many of the tokens, the one that is refused last is refused at the spot.
+  pub record IsLast (tokens : List Token) (many : ℕ) (spot : Spot) : Type 0 where
+    pub tree : Tree
+    pub reached : Continues IsPart (take many tokens) tree
+    pub refused : spot_of many (entries_of tree) ≡ spot
+    pub last : (other : Tree) → Continues IsPart (take many tokens) other → IsUpTo (spot_of many (entries_of other)) spot
+
+  -- Tokens are refused where the tree is that is refused last of those that continue them furthest.
+  pub record AreRefusedLast (tokens : List Token) (spot : Spot) : Type 0 where
+    pub refused : IsRefused tokens spot → (many : ℕ) → IsFurthest IsPart tokens many → IsLast tokens many spot
+    pub last : spot.at < length tokens → (many : ℕ) → IsFurthest IsPart tokens many → IsLast tokens many spot → IsRefused tokens spot
 
   -- Tokens begin with one tree within the limits at most, and have one fault at most, and not both.
   pub record IsDetermined (tokens : List Token) : Type 0 where

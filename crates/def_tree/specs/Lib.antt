@@ -3,6 +3,7 @@ pub mod ExprTree
 pub mod Fault
 pub mod Laws
 pub mod Limits
+pub mod Marks
 pub mod Operator
 pub mod Part
 pub mod Statements

@@ -116,10 +116,10 @@ assignment_tokens _ = 1
 abbrev mutual
   pub expr_entries : Nesting → ExprTree → List Entry
   expr_entries around (expr.Number token) = plain ∷ []
-  expr_entries around (expr.Truth value token) = plain ∷ []
+  expr_entries around (expr.BooleanLiteral value token) = plain ∷ []
   expr_entries around (expr.Itself token) = plain ∷ []
   expr_entries around (expr.Name token args) = plain ∷ args_entries around.types args
-  expr_entries around (expr.Conversion word token operand) =
+  expr_entries around (expr.FunctionalCast word token operand) =
       let inside = in_bracket around in
       plain ∷ opens inside.brackets ∷ (expr_entries inside operand ++ plain ∷ [])
   expr_entries around (expr.OwnType token) = plain ∷ []
@@ -213,9 +213,9 @@ local_entries around (tree.Inferred binding word name type value) =
 abbrev pub simple_entries : Nesting → SimpleTree → List Entry
 simple_entries around (tree.Assign assignment token place value) =
     whole_entries around place ++ (replicate (assignment_tokens assignment) plain ++ whole_entries around value)
-simple_entries around (tree.StepBehind step place token) = whole_entries around place ++ plain ∷ []
-simple_entries around (tree.StepBefore step token place) = plain ∷ whole_entries around place
-simple_entries around (tree.Alone call) = whole_entries around call
+simple_entries around (tree.PostfixStep step place token) = whole_entries around place ++ plain ∷ []
+simple_entries around (tree.PrefixStep step token place) = plain ∷ whole_entries around place
+simple_entries around (tree.CallStatement call) = whole_entries around call
 
 -- the entries of what a `for` begins with, and the semicolon
 abbrev pub start_entries : Nesting → StartTree → List Entry

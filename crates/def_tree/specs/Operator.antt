@@ -132,7 +132,7 @@ SignAt = List ℕ × List Token
 -- the text of a sign that does not begin with `>`; `>` is the one token that does
 abbrev pub sign_text : Symbol → List ℕ
 sign_text Name = []
-sign_text Number = []
+sign_text (Number wide) = []
 sign_text Text = []
 sign_text End = []
 sign_text (Sign []) = []

@@ -89,15 +89,15 @@ pub data IsSimple : List Token → SimpleTree → List Token → Type 0 where
       → sign_at (token ∷ after) ≡ (codes (assignment_text assignment), behind)
       → IsExpr behind value rest
       → IsSimple tokens (tree.Assign assignment token place value) rest
-  of_step_behind : {step : Step} {token : Token} {tokens rest : List Token} {place : ExprTree}
+  of_postfix_step : {step : Step} {token : Token} {tokens rest : List Token} {place : ExprTree}
       → IsExpr tokens place (token ∷ rest) → Is (step_text step) token
-      → IsSimple tokens (tree.StepBehind step place token) rest
-  of_step_before : {step : Step} {token : Token} {tokens rest : List Token} {place : ExprTree}
+      → IsSimple tokens (tree.PostfixStep step place token) rest
+  of_prefix_step : {step : Step} {token : Token} {tokens rest : List Token} {place : ExprTree}
       → Is (step_text step) token → IsExpr tokens place rest
-      → IsSimple (token ∷ tokens) (tree.StepBefore step token place) rest
-  of_call_alone : {tokens rest : List Token} {call : ExprTree}
+      → IsSimple (token ∷ tokens) (tree.PrefixStep step token place) rest
+  of_call_statement : {tokens rest : List Token} {call : ExprTree}
       → IsExpr tokens call rest → IsTrue (is_call call)
-      → IsSimple tokens (tree.Alone call) rest
+      → IsSimple tokens (tree.CallStatement call) rest
 
 -- the tokens begin with no Local that a semicolon ends
 abbrev pub NoLocal : List Token → Type 0

@@ -28,9 +28,9 @@ pub data LocalTree : Type 0 where
 -- a statement that changes a place or calls
 pub data SimpleTree : Type 0 where
   Assign : Assignment → Token → ExprTree → ExprTree → SimpleTree
-  StepBehind : Step → ExprTree → Token → SimpleTree
-  StepBefore : Step → Token → ExprTree → SimpleTree
-  Alone : ExprTree → SimpleTree
+  PostfixStep : Step → ExprTree → Token → SimpleTree
+  PrefixStep : Step → Token → ExprTree → SimpleTree
+  CallStatement : ExprTree → SimpleTree
 
 -- what a `for` begins with
 pub data StartTree : Type 0 where

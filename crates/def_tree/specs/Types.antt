@@ -12,7 +12,8 @@ pub data IsPath : List Token → List Token → List Token → Type 0 where
       → IsPath (dot ∷ name ∷ tokens) (name ∷ path) rest
 
 mutual
-  -- Type = ( "int" | "uint" | "bool" | "void" | "uint3" | "This" | Name [ TypeArgs ] ) { "." Name }
+  -- Type = ( "int" | "uint" | "int64_t" | "uint64_t" | "bool" | "void" | "uint3" | "This" | Name [ TypeArgs ] )
+  --        { "." Name }
   pub data IsType : List Token → TypeTree → List Token → Type 0 where
     of_word : {word : TypeWord} {first : Token} {tokens path rest : List Token}
         → Is (word_text word) first → IsPath tokens path rest

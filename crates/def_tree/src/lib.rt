@@ -1,6 +1,4 @@
 //! What the syntax trees of token lists are: the grammar, its limits, and what is told where there is no tree.
 //!
-//! This crate holds definitions (`specs/`) and laws about them.
+//! This crate holds definitions alone (`specs/`).
 #![tactic(auto)]
-
-pub mod laws;

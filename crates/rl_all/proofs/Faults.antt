@@ -1,20 +1,23 @@
 -- What is told of a text has a text.
 use Rattle.std.proofs.Common.{◌≡◌, ℕ, zero, suc, Bool, true, false, List, [], ◌∷◌, length, subst, sym, refl}
 use Rattle.std.specs.Char.{is_ascii_digit}
-use Rattle.std.specs.Prelude.{Some, None, IsTrue, is_some, slice_index, if◌then◌else◌}
+use Rattle.std.specs.Prelude.{Option, Some, None, IsTrue, is_some, slice_index, if◌then◌else◌}
 use Rattle.def_slang.specs.Diagnostic.{takes}
 use Rattle.def_slang.specs.Keyword.{is_keyword}
 use Rattle.def_slang.specs.Name.{is_name}
 use Rattle.def_token.specs.Lexeme.{Class, Space, Comment, OpenComment, Word, Quoted, OpenQuoted, Symbol, Stray}
 use Rattle.def_token.specs.Lexical as lexical
-use Rattle.def_token.specs.Lexical.{Fault, IsFault, IsToken, Token, Verdict, args_of, verdict_of}
+use Rattle.def_token.specs.Lexical.{Fault, HasLexicalFault, IsFault, IsToken, Token, Verdict, args_of, verdict_of}
 use Rattle.def_token.specs.Number.{number_of}
 use Rattle.def_tree.specs.Fault.{Spot, fault_at, first_spot}
 use Rattle.def_tree.specs.Limits.{Deep, Long, Entry}
-use Rattle.def_module.specs.Syntax.{Answer, Good, Bad, HasSyntax, IsRefused, IsSyntax, is_good, is_lexical}
-use Rattle.def_module.specs.Syntax.{is_refused, is_twice, is_unbuilt, of_tokens}
+use Rattle.def_built.specs.Built.{not_built}
+use Rattle.def_built.specs.Told.{answer_by, then_built, told_in}
+use Rattle.def_module.specs.DeclTree.{ModuleTree}
+use Rattle.def_module.specs.Syntax.{Answer, Good, Bad, AreRefused, HasSyntax, IsSyntax, is_good, is_lexical}
+use Rattle.def_module.specs.Syntax.{is_refused, is_twice, of_tokens}
 use Rattle.def_syntax.specs.Syntax.{syntax_in}
-use Rattle.def_syntax.proofs.Telling.{syntax_is_told}
+use Rattle.law_syntax.proofs.Telling.{syntax_is_told}
 
 -- the code of a fault has a text for its number of arguments
 abbrev HasText : Fault → Type 0
@@ -58,7 +61,7 @@ verdict_text OpenQuoted bytes code is = subst (λ c. IsText c bytes) (let same :
 verdict_text Symbol bytes code is = absurd (cc)
 verdict_text Stray bytes code is = subst (λ c. IsText c bytes) (let same : 101 ≡ code = cc in same) refl
 
-lexical_text : (text : List ℕ) (fault : Fault) → lexical.HasFault text fault → HasText fault
+lexical_text : (text : List ℕ) (fault : Fault) → HasLexicalFault text fault → HasText fault
 lexical_text text fault has =
     subst (λ (args : List (List ℕ)). IsTrue (takes fault.code (length args))) (sym has.args_are)
     (verdict_text has.piece.class has.piece.bytes fault.code has.faulty)
@@ -73,7 +76,7 @@ spot_text from (suc many) (None ∷ entries) token = spot_text (suc from) many e
 spot_text from (suc many) (Some Deep ∷ entries) token = refl
 spot_text from (suc many) (Some Long ∷ entries) token = refl
 
-refused_text : (tokens : List Token) (fault : Fault) → IsRefused tokens fault → HasText fault
+refused_text : (tokens : List Token) (fault : Fault) → AreRefused tokens fault → HasText fault
 refused_text tokens fault has =
     subst HasText (sym has.told)
     (subst (λ (spot : Spot). HasText (fault_at spot.code has.token)) has.refused.refused
@@ -87,15 +90,24 @@ HasTextIfBad (Good tree) = Unit {0}
 HasTextIfBad (Bad fault) = HasText fault
 
 tokens_text : (tokens : List Token) (answer : Answer) → IsSyntax tokens answer → HasTextIfBad answer
-tokens_text tokens answer (is_good read once built) = tt
+tokens_text tokens answer (is_good read once) = tt
 tokens_text tokens answer (is_refused {fault = fault} refused) = refused_text tokens fault refused
 tokens_text tokens answer (is_twice read is) = refl
-tokens_text tokens answer (is_unbuilt read once is) = refl
 
 answer_text : (text : List ℕ) (answer : Answer) → HasSyntax text answer → HasTextIfBad answer
 answer_text text answer (is_lexical {fault = fault} has) = lexical_text text fault has
 answer_text text answer (of_tokens {tokens = tokens} cut told) = tokens_text tokens answer told
 
+-- and so has what is told of a form that is not checked yet
+unbuilt_text : (tree : ModuleTree) (token : Option Token) → HasTextIfBad (answer_by token tree)
+unbuilt_text tree None = tt
+unbuilt_text tree (Some token) = refl
+
+built_text : (answer : Answer) → HasTextIfBad answer → HasTextIfBad (then_built answer)
+built_text (Good tree) has = unbuilt_text tree (not_built tree)
+built_text (Bad fault) has = has
+
 -- what is told of each text has a text
-pub syntax_text : (text : List ℕ) → HasTextIfBad (syntax_in text)
-syntax_text text = answer_text text (syntax_in text) ((syntax_is_told text (syntax_in text)).0 refl)
+pub syntax_text : (text : List ℕ) → HasTextIfBad (told_in text)
+syntax_text text =
+    built_text (syntax_in text) (answer_text text (syntax_in text) ((syntax_is_told text (syntax_in text)).0 refl))

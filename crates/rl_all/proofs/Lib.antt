@@ -1,5 +1,6 @@
 pub mod Answering
 pub mod Asked
+pub mod Built
 pub mod Closure
 pub mod Cycles
 pub mod Faults

@@ -24,7 +24,7 @@ use Rattle.sl_key.specs.declared.request.Request.TheVariants.{Make}
 use Rattle.sl_key.specs.declared.request.Term.TheVariants.{Load}
 use Rattle.sl_io.specs.Root.{bytes_of}
 use Rattle.def_module.specs.Syntax as module_syntax
-use Rattle.def_syntax.specs.Syntax.{syntax_in}
+use Rattle.def_built.specs.Told.{told_in}
 use Rattle.def_query.specs.Answer.{Answers}
 use Rattle.def_query.specs.Keys.{IsIn}
 use Rattle.def_query.specs.Map.{get}
@@ -102,7 +102,7 @@ told_well name text (module_syntax.Good module_tree) h = tt
 told_well name text (module_syntax.Bad fault) h = h
 
 read_well : (name : List ℕ) (o : Option (List ℕ)) → KnownWell (read name o)
-read_well name (Some text) = told_well name text (syntax_in text) (syntax_text text)
+read_well name (Some text) = told_well name text (told_in text) (syntax_text text)
 read_well name None = refl
 
 known_well : (kind : Kind) (known : Result (Holds kind) Diag) → KnownWell known → HasTextIfBad (answer_of kind known)

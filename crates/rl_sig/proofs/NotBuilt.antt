@@ -22,6 +22,8 @@ module _ (scope : Scope) (source : List ℕ) where
   long_word word first [] b h is = absurd (not_both b (h.1 refl) is)
   long_word types.Int first (name ∷ path) b h is = refl
   long_word types.Uint first (name ∷ path) b h is = refl
+  long_word types.Int64 first (name ∷ path) b h is = refl
+  long_word types.Uint64 first (name ∷ path) b h is = refl
   long_word types.Bool' first (name ∷ path) b h is = refl
   long_word types.Void first (name ∷ path) b h is = refl
   long_word types.Uint3 first (name ∷ path) b h is = refl

@@ -11,8 +11,8 @@ ghost use Rattle.sl_tree.specs.View.{expr_in, operator_of};
 
 use crate::scope::Reader;
 use crate::values::{arithmetic_of, converted, misfit_of, result_of, type_of};
+use rl_built::small_number;
 use sl_key::{Fault, Flow, Ty, Value};
-use sl_scopes::small_number;
 use sl_token::Token;
 use sl_tree::{ExprTree, Operator};
 
@@ -20,14 +20,14 @@ impl Reader<'_> {
     ghost use Rattle.rl_sig.specs.Reading.{facts_of, scope_of, text_of};
 
     /// The value of an expression.
-    #[tactic(auto, using(crate::proofs::Forms::expr_forms, crate::proofs::Forms::part_forms))]
+    #[tactic(auto, using(sl_tree::proofs::Forms::expr_forms, crate::proofs::Forms::part_forms))]
     pub fn value_of(&self, expr: &ExprTree) -> Flow<Value>
         ensures { let expr = expr_in (text_of self.now) expr.now in
             Tells result (run (facts_of self.now) (value_of (scope_of self.now) expr)) }
     {
         match expr {
             ExprTree::Number(token) => self.value_written(*token),
-            ExprTree::Truth(truth, _) => Ok(Value::Bool(*truth)),
+            ExprTree::BooleanLiteral(truth, _) => Ok(Value::Bool(*truth)),
             ExprTree::Name(name, args) => {
                 if args.is_empty() {
                     self.value_named(*name)
@@ -42,14 +42,14 @@ impl Reader<'_> {
                 self.combined(*operator, *token, x, y)
             }
             ExprTree::Itself(_)
-            | ExprTree::Conversion(_, _, _)
+            | ExprTree::FunctionalCast(_, _, _)
             | ExprTree::OwnType(_)
             | ExprTree::Call(_, _, _)
             | ExprTree::Index(_, _, _)
             | ExprTree::Member(_, _)
             | ExprTree::Unary(_, _, _)
             | ExprTree::Cast(_, _, _, _)
-            | ExprTree::Conditional(_, _, _, _) => self.unbuilt(first_token(expr)),
+            | ExprTree::Conditional(_, _, _, _) => self.unbuilt(expr.first_token()),
         }
     }
 
@@ -62,7 +62,7 @@ impl Reader<'_> {
             Some(value) => Ok(value),
             None => {
                 let fault = Fault::NoConversion(type_of(value), ty);
-                Err(self.broken(first_token(expr), fault)?)
+                Err(self.broken(expr.first_token(), fault)?)
             }
         }
     }
@@ -93,28 +93,5 @@ impl Reader<'_> {
                 Err(self.broken(token, fault)?)
             }
         }
-    }
-}
-
-// The first token of an expression.
-#[tactic(auto, using(crate::proofs::Forms::expr_forms))]
-fn first_token(expr: &ExprTree) -> Token
-    ensures { (source : List ℕ) → token_in source result ≡ trees.first_token (expr_in source expr.now) }
-{
-    match expr {
-        ExprTree::Number(token)
-        | ExprTree::Truth(_, token)
-        | ExprTree::Itself(token)
-        | ExprTree::Name(token, _)
-        | ExprTree::Conversion(_, token, _)
-        | ExprTree::OwnType(token)
-        | ExprTree::Group(token, _)
-        | ExprTree::Unary(_, token, _)
-        | ExprTree::Cast(token, _, _, _) => *token,
-        ExprTree::Call(first, _, _)
-        | ExprTree::Index(first, _, _)
-        | ExprTree::Member(first, _)
-        | ExprTree::Binary(_, _, first, _)
-        | ExprTree::Conditional(first, _, _, _) => first_token(first.get()),
     }
 }

@@ -56,7 +56,7 @@ impl Reader<'_> {
     }
 
     /// The type that is written.
-    #[tactic(auto, using(crate::proofs::Forms::type_forms))]
+    #[tactic(auto, using(sl_tree::proofs::Forms::type_forms))]
     pub fn type_written(&self, written: &TypeTree) -> Flow<Ty>
         ensures { Tells result
             (run (facts_of self.now) (type_written (scope_of self.now) (type_in (text_of self.now) written.now))) }
@@ -101,7 +101,11 @@ impl Reader<'_> {
             TypeWord::Bool => Ok(Ty::Bool),
             TypeWord::Int => Ok(Ty::Int),
             TypeWord::Uint => Ok(Ty::Uint),
-            TypeWord::Void | TypeWord::Uint3 | TypeWord::This => self.unbuilt(first),
+            TypeWord::Int64
+            | TypeWord::Uint64
+            | TypeWord::Void
+            | TypeWord::Uint3
+            | TypeWord::This => self.unbuilt(first),
         }
     }
 

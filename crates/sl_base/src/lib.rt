@@ -1,4 +1,4 @@
-//! Names, places, lists and diagnostics, on which every other crate stands.
+//! Names, places, lists, diagnostics, refusals and tables, on which every other crate stands.
 #![tactic(auto)]
 
 mod diag;
@@ -6,6 +6,8 @@ mod list;
 mod memory;
 mod name;
 mod place;
+mod refusal;
+mod table;
 mod texts;
 
 pub use diag::{Diag, Site};
@@ -13,6 +15,8 @@ pub use list::{Bytes, List};
 pub use memory::NoMemory;
 pub use name::{Name, NameRefusal, is_name, is_word_byte};
 pub use place::Place;
+pub use refusal::Refusal;
+pub use table::{Row, find_row};
 
 #[cfg(test)]
 mod tests;

@@ -4,7 +4,7 @@ use Rattle.std.specs.Prelude.{if◌then◌else◌}
 use Rattle.std.specs.List.{AllByRecursion}
 use Rattle.def_token.specs.Lexical.{Token}
 use Rattle.def_tree.specs.ExprTree.{ExprTree, ExprTrees}
-use Rattle.def_tree.specs.Expressions.{IsPrimary, of_number, of_true, of_false, of_itself, of_name, of_generic, of_conversion, of_own_type, of_group, IsPostfix, of_primary, of_call, of_index, of_member, IsArguments, no_arguments, some_arguments, IsExprList, last_expr, more_exprs, IsUnary, of_operator, of_cast, of_postfix, IsBinary, of_unary, of_operands, IsExpr, of_binary, of_condition}
+use Rattle.def_tree.specs.Expressions.{IsPrimary, of_number, of_true, of_false, of_itself, of_name, of_generic, of_functional_cast, of_own_type, of_group, IsPostfix, of_primary, of_call, of_index, of_member, IsArguments, no_arguments, some_arguments, IsExprList, last_expr, more_exprs, IsUnary, of_operator, of_cast, of_postfix, IsBinary, of_unary, of_operands, IsExpr, of_binary, of_condition}
 use Rattle.def_tree.specs.Operator.{SignAt, after_one, after_two, joins, sign_at, sign_text}
 use Rattle.def_tree.specs.Symbol.{is_sign, symbol}
 use Rattle.def_tree.specs.TypeTree.{TypeTree, TypeTrees}
@@ -74,7 +74,7 @@ module _ (IsSo : Token → Type 0) where
     primary_behind (of_itself h) each = each.1
     primary_behind (of_name h n) each = each.1
     primary_behind (of_generic h n) each = args_behind n.arguments each.1
-    primary_behind (of_conversion s h o inner c) each = (expr_behind inner each.1.1).1
+    primary_behind (of_functional_cast s h o inner c) each = (expr_behind inner each.1.1).1
     primary_behind (of_own_type h) each = each.1
     primary_behind (of_group h inner c) each = (expr_behind inner each.1).1
 

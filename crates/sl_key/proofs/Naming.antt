@@ -7,16 +7,18 @@ use Rattle.std.proofs.lemmas.List.Elements.{recursion_from_All}
 use Rattle.def_slang.specs.Name.{is_name}
 use Rattle.def_token.specs.Lexical as lexical
 use Rattle.def_token.specs.Lexical.{FitsKind, HasTokens, Kind, Token, token_behind}
-use Rattle.def_token.proofs.Fitting.{sequence}
+use Rattle.law_token.proofs.Fitting.{sequence}
 use Rattle.def_tree.specs.Symbol.{IsName, Name, symbol_by}
-use Rattle.def_module.specs.Built.{decl_token, is_built, not_built}
+use Rattle.def_built.specs.Built.{is_built, not_built}
+use Rattle.def_built.specs.Told.{answer_by, then_built, told_in}
 use Rattle.def_module.specs.Declarations.{IsAccess, of_access, of_alias, of_const, IsDecl, decl_import, decl_alias, decl_const, decl_struct, decl_interface, decl_extension, decl_buffer, decl_function}
 use Rattle.def_module.specs.DeclTree.{AccessTree, DeclTree, ModuleTree}
+use Rattle.def_module.specs.First.{decl_token}
 use Rattle.def_module.specs.Module.{IsHeader, of_header, IsModule, of_module}
 use Rattle.def_module.specs.Repetition.{MayBe, without, with_one, AreMany, no_more, one_more}
-use Rattle.def_module.specs.Syntax.{Answer, Good, Bad, IsSyntax, is_good, is_refused, is_twice, is_unbuilt, HasSyntax, is_lexical, of_tokens}
+use Rattle.def_module.specs.Syntax.{Answer, Good, Bad, IsSyntax, is_good, is_refused, is_twice, HasSyntax, is_lexical, of_tokens}
 use Rattle.def_syntax.specs.Syntax.{syntax_in}
-use Rattle.def_syntax.proofs.Telling.{syntax_is_told}
+use Rattle.law_syntax.proofs.Telling.{syntax_is_told}
 use Rattle.sl_key.specs.Index.{AreNamed, IsNamed}
 use Rattle.sl_key.proofs.Behind.{expr_behind, type_behind}
 
@@ -98,21 +100,39 @@ module_named : {tokens rest : List Token} {tree : ModuleTree} → IsModule token
     → AreNamed tree.decls
 module_named (of_module h ds e) none names = decls_named ds none (header_behind h names)
 
--- the declarations of a tree of which nothing is told are named
+-- the declarations of a tree of which nothing is told are named, where they are built
 abbrev IsNamedAnswer : Answer → Type 0
-IsNamedAnswer (Good tree) = AreNamed tree.decls
+IsNamedAnswer (Good tree) = not_built tree ≡ None → AreNamed tree.decls
 IsNamedAnswer (Bad fault) = Unit {0}
 
 tokens_named : {tokens : List Token} {answer : Answer} → IsSyntax tokens answer → MayAllName tokens → IsNamedAnswer answer
-tokens_named (is_good read twice built) names = module_named read.part built names
+tokens_named (is_good read once) names = λ built. module_named read.part built names
 tokens_named (is_refused r) names = tt
 tokens_named (is_twice read twice) names = tt
-tokens_named (is_unbuilt read twice built) names = tt
 
 answer_named : {text : List ℕ} {answer : Answer} → HasSyntax text answer → IsNamedAnswer answer
 answer_named (is_lexical f) = tt
 answer_named {text = text} (of_tokens {tokens = tokens} lexed is) = tokens_named is (tokens_name text tokens lexed)
 
+-- a tree of which nothing is told has only forms that are checked
+tree_built : (unbuilt : Option Token) (found tree : ModuleTree) → not_built found ≡ unbuilt
+    → answer_by unbuilt found ≡ Good tree
+    → (Good found ≡ Good tree) × (not_built tree ≡ None)
+tree_built None found tree built is = let same : found ≡ tree = cc in (is, subst (λ t. not_built t ≡ None) same built)
+tree_built (Some token) found tree built is = absurd (cc)
+
+answer_built : (answer : Answer) (tree : ModuleTree) → then_built answer ≡ Good tree
+    → (answer ≡ Good tree) × (not_built tree ≡ None)
+answer_built (Good found) tree is = tree_built (not_built found) found tree refl is
+answer_built (Bad fault) tree is = absurd (cc)
+
+-- where nothing is told of a text, its syntax is its tree, which has only forms that are checked
+pub text_built : (text : List ℕ) (tree : ModuleTree) → told_in text ≡ Good tree
+    → (syntax_in text ≡ Good tree) × (not_built tree ≡ None)
+text_built text tree is = answer_built (syntax_in text) tree is
+
 -- what a text of which nothing is told declares is named
-pub text_named : (text : List ℕ) (tree : ModuleTree) → syntax_in text ≡ Good tree → AreNamed tree.decls
-text_named text tree is = answer_named ((syntax_is_told text (Good tree)).0 is)
+pub text_named : (text : List ℕ) (tree : ModuleTree) → told_in text ≡ Good tree → AreNamed tree.decls
+text_named text tree is =
+    let known = text_built text tree is in
+    answer_named ((syntax_is_told text (Good tree)).0 known.0) known.1

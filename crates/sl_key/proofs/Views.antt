@@ -8,7 +8,8 @@ use Rattle.std.proofs.lemmas.List.Elements.{filter_map-append}
 use Rattle.std.proofs.lemmas.Option.{slice_get-map, slice_get_read}
 use Rattle.def_module.specs.DeclTree as trees
 use Rattle.def_module.specs.Syntax.{Answer, Good}
-use Rattle.def_syntax.specs.Syntax.{good_tree, syntax_in}
+use Rattle.def_syntax.specs.Syntax.{good_tree}
+use Rattle.def_built.specs.Told.{told_in}
 use Rattle.sl_tree.specs.DeclView.{decl_in, module_in}
 use Rattle.sl_tree.specs.declared.declarations.DeclTree.{DeclTree}
 use Rattle.sl_tree.specs.declared.declarations.ModuleTree.{ModuleTree}
@@ -16,12 +17,14 @@ use Rattle.sl_key.specs.Index.{AreNamed, Entry, IsIndex, IsNamed, number_in}
 use Rattle.sl_key.specs.Names.{decls_in, key_of, keys_of, named_in}
 use Rattle.sl_key.specs.declared.key.Key.{Key}
 use Rattle.sl_key.proofs.Indexes.{index_finds}
+use Rattle.sl_key.proofs.Naming.{text_built}
 
 -- the declarations of a text of which nothing is told are those of its tree
-pub decls_of : (text : List ℕ) (tree : ModuleTree) → syntax_in text ≡ Good (module_in text tree)
+pub decls_of : (text : List ℕ) (tree : ModuleTree) → told_in text ≡ Good (module_in text tree)
     → decls_in text ≡ map (decl_in text) tree.decls
 decls_of text tree is =
-    ap (λ (answer : Answer). option_map_or (λ (t : trees.ModuleTree). t.decls) (good_tree answer) []) is
+    ap (λ (answer : Answer). option_map_or (λ (t : trees.ModuleTree). t.decls) (good_tree answer) [])
+    (text_built text (module_in text tree) is).0
 
 -- the declaration at a number is named, where all are
 pub named_at : (text : List ℕ) (decls : List DeclTree) (number : ℕ) → AreNamed (map (decl_in text) decls)
@@ -38,7 +41,7 @@ at_number text decls (Some number) = slice_get-map (decl_in text) decls number
 
 -- the declaration of a name stands where the entries say
 pub found_in : (text : List ℕ) (tree : ModuleTree) (entries : List Entry) (name : List ℕ) (number : Option ℕ)
-    → syntax_in text ≡ Good (module_in text tree) → IsIndex (map (decl_in text) tree.decls) entries
+    → told_in text ≡ Good (module_in text tree) → IsIndex (map (decl_in text) tree.decls) entries
     → number_in name entries ≡ number
     → named_in (decls_in text) name ≡ option_map (decl_in text) (option_and_then (slice_get tree.decls) number)
 found_in text tree entries name number is index has =

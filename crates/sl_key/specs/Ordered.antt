@@ -1,5 +1,5 @@
 -- The order of keys is total, and tells keys apart.
-use Rattle.std.specs.Prelude.{◌≡◌, refl, List}
+use Rattle.std.specs.Prelude.{◌≡◌, refl}
 use Rattle.std.proofs.Common.{ap, arith, ◌∙◌}
 use Rattle.std.specs.Cmp.{IsTotalOrder, IsEquivalence, IsPartialOrder, eq_by_cmp_equiv, then_total, on_total, nat_cmp_total, po}
 use Rattle.std.specs.Cmp.Lexicographic.{lists_total, on_texts}
@@ -14,7 +14,7 @@ use Rattle.sl_key.specs.declared.path.DeclPath.{DeclPath}
 use Rattle.sl_key.specs.declared.path.Part.{Part}
 use Rattle.sl_key.specs.declared.value.Ty.{Ty}
 use Rattle.sl_key.specs.declared.value.Ty.TheVariants as type
-use Rattle.sl_key.specs.Order.{key_cmp, kind_cmp, module_of, part_cmp, parts_of, kind_rank, type_cmp, type_rank}
+use Rattle.sl_key.specs.Order.{key_cmp, module_of, part_cmp, parts_of, kind_rank, type_cmp, type_rank}
 
 -- the order of steps is total
 pub part_total : IsTotalOrder part_cmp

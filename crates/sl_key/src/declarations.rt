@@ -6,7 +6,7 @@ ghost use Rattle.def_module.specs.DeclTree as trees;
 ghost use Rattle.std.specs.Option.{IfSome, option_copied, option_map};
 ghost use Rattle.def_slang.specs.Name.{is_name};
 ghost use Rattle.def_module.specs.Syntax.{Good};
-ghost use Rattle.def_syntax.specs.Syntax.{syntax_in};
+ghost use Rattle.def_built.specs.Told.{told_in};
 ghost use Rattle.sl_token.specs.View.{slice_of, token_in};
 ghost use Rattle.sl_tree.specs.DeclView.{decl_in, module_in};
 ghost use Rattle.sl_key.specs.Index.{IsIndex, IsNamed, number_in};
@@ -34,7 +34,7 @@ pub struct Declarations {
 impl Model for Declarations {
     ghost use Rattle.std.specs.Prelude.{◌≡◌, List, ℕ};
     ghost use Rattle.def_module.specs.Syntax.{Good};
-    ghost use Rattle.def_syntax.specs.Syntax.{syntax_in};
+    ghost use Rattle.def_built.specs.Told.{told_in};
     ghost use Rattle.sl_tree.specs.DeclView.{module_in};
     ghost use Rattle.sl_key.specs.Index.{IsIndex};
 
@@ -42,14 +42,14 @@ impl Model for Declarations {
 
     ghost view = { λ d. d.source };
 
-    ghost invariant = { λ d. (syntax_in d.source ≡ Good (module_in d.source d.tree))
+    ghost invariant = { λ d. (told_in d.source ≡ Good (module_in d.source d.tree))
         × IsIndex (module_in d.source d.tree).decls d.numbers.entries };
 }
 
 impl Declarations {
     /// The declarations of a text, of which this is the tree.
     pub fn new(alloc: Global, source: Bytes, tree: ModuleTree) -> Result<Declarations, NoMemory>
-        requires { syntax_in source ≡ Good (module_in source tree) }
+        requires { told_in source ≡ Good (module_in source tree) }
         ensures { IfOk result (λ d. d ≡ source) }
     {
         let mut numbers = IndexMap::new(alloc);

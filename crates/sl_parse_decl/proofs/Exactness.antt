@@ -4,11 +4,11 @@ use Rattle.std.specs.Prelude.{None}
 use Rattle.def_token.specs.Lexical.{Token}
 use Rattle.def_module.specs.Entries.{module_entries}
 use Rattle.def_module.specs.Module.{IsModule}
-use Rattle.def_reading.specs.Place.{At}
+use Rattle.def_reading.specs.Cursor.{At}
 use Rattle.def_reading.specs.TypeReading.{Ended}
 use Rattle.def_decl_reading.specs.DeclReading.{module_in}
-use Rattle.def_decl_reading.proofs.ModuleExact.{modules_are_exact}
-use Rattle.sl_parse_expr.proofs.Answered.{IsExactTry}
+use Rattle.law_decls.proofs.ModuleExact.{modules_are_exact}
+use Rattle.sl_stmt.proofs.Answered.{IsExactTry}
 
 pub module_exact : (tokens : List Token) → Ended tokens
     → IsExactTry IsModule module_entries tokens (module_in None (At 0 None tokens))

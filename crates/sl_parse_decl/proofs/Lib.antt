@@ -1,9 +1,2 @@
-pub mod Deciding
-pub mod Forming
-pub mod Looping
-pub mod Eating
-pub mod Choosing
-pub mod Taking
 pub mod Exactness
-pub mod Ended
 pub mod Started

@@ -9,22 +9,22 @@ use Rattle.def_module.specs.Entries.{module_entries}
 use Rattle.def_module.specs.Module.{IsModule}
 use Rattle.def_tree.specs.Fault.{IsRead}
 use Rattle.def_decl_reading.specs.DeclReading as lists
-use Rattle.sl_token.specs.View.{token_in, tokens_in}
+use Rattle.sl_base.specs.declared.refusal.Refusal.{Refusal}
+use Rattle.sl_token.specs.View.{Tells, token_in, tokens_in}
 use Rattle.sl_token.specs.declared.token.Token as kept
 use Rattle.sl_tree.specs.DeclView.{module_in}
 use Rattle.sl_tree.specs.declared.declarations.ModuleTree as trees
-use Rattle.sl_parse_expr.specs.Following as following
-use Rattle.sl_parse_expr.specs.Parts.{TellsUnread, IsRefusedAt, TellsFault}
-use Rattle.sl_parse_expr.specs.Seen.{reach_in, place_in}
-use Rattle.sl_parse_expr.specs.declared.source.Here.{Here}
-use Rattle.sl_parse_expr.specs.Settling.{Settles}
-use Rattle.sl_parse_expr.specs.declared.refusal.ParseRefusal.{ParseRefusal}
-use Rattle.sl_parse_expr.specs.declared.source.Source.{Source}
-use Rattle.sl_parse_expr.specs.declared.source.Unread.{Unread}
-use Rattle.sl_parse_expr.proofs.Answered.{IsExactTry, on_start, settles_come, unread_fault, limit_fault, whole_read}
-use Rattle.sl_parse_expr.proofs.Exactness.{lexed_ended}
-use Rattle.sl_parse_decl.specs.Modules.{IsBehindEnd}
-use Rattle.sl_parse_decl.proofs.Ended.{none_behind}
+use Rattle.sl_cursor.specs.Following as following
+use Rattle.sl_cursor.specs.Parts.{TellsUnread, IsRefusedAt, HasFaultFrom}
+use Rattle.sl_cursor.specs.Seen.{reach_in, place_in}
+use Rattle.sl_cursor.specs.declared.source.Here.{Here}
+use Rattle.sl_stmt.specs.Settling.{Settles}
+use Rattle.sl_cursor.specs.declared.source.Source.{Source}
+use Rattle.sl_cursor.specs.declared.source.Unread.{Unread}
+use Rattle.sl_stmt.proofs.Answered.{IsExactTry, on_start, settles_come, unread_fault, limit_fault, whole_read}
+use Rattle.sl_stmt.proofs.Ended.{lexed_ended}
+use Rattle.sl_decl.specs.Modules.{IsBehindEnd}
+use Rattle.sl_decl.proofs.Ended.{none_behind}
 use Rattle.sl_parse_decl.proofs.Exactness.{module_exact}
 
 some_token : (bytes : List ℕ) (tokens : List Token) → HasTokens bytes tokens → 0 < length tokens
@@ -65,23 +65,23 @@ module_read source from tree to lexed exact r end none' =
     (r.tried.same none') whole)
 
 -- what is told where no module is read
-pub module_unread : (source : Source) (from : Here) (why : Unread) (answer : ParseRefusal)
+pub module_unread : (source : Source) (from : Here) (why : Unread) (answer : Refusal)
     → IsExactTry IsModule module_entries (tokens_in source.bytes.now source.tokens.now)
     (lists.module_in (option_map (reach_in source.bytes.now) from.reach) (place_in source.bytes.now from.place))
     → Settles source (module_in source.bytes.now) lists.module_in from (Err why) → TellsUnread source.bytes.now why answer
-    → TellsFault IsModule module_entries (tokens_in source.bytes.now source.tokens.now) 0 answer
+    → Tells (HasFaultFrom IsModule module_entries (tokens_in source.bytes.now source.tokens.now) 0) answer
 module_unread source from why answer exact s told =
     unread_fault IsModule module_entries (module_in source.bytes.now) lists.module_in source from
     (tokens_in source.bytes.now source.tokens.now) 0 why answer
     (settles_come source (module_in source.bytes.now) lists.module_in from (Err why) s) exact told
 
 -- what is told of a limit on the way to the end
-pub module_limit : (source : Source) (from : Here) (tree : trees.ModuleTree) (to : Here) (answer : ParseRefusal)
+pub module_limit : (source : Source) (from : Here) (tree : trees.ModuleTree) (to : Here) (answer : Refusal)
     → IsExactTry IsModule module_entries (tokens_in source.bytes.now source.tokens.now)
     (lists.module_in (option_map (reach_in source.bytes.now) from.reach) (place_in source.bytes.now from.place))
     → following.IsRead source (module_in source.bytes.now) lists.module_in from tree to
     → IsRefusedAt source.bytes.now to.place.limit answer
-    → TellsFault IsModule module_entries (tokens_in source.bytes.now source.tokens.now) 0 answer
+    → Tells (HasFaultFrom IsModule module_entries (tokens_in source.bytes.now source.tokens.now) 0) answer
 module_limit source from tree to answer exact r h =
     let bytes = source.bytes.now in
     let tokens = tokens_in bytes source.tokens.now in

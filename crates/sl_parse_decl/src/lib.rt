@@ -1,14 +1,6 @@
-//! The parser of declarations and of whole modules.
+//! The parser of whole modules.
 #![tactic(auto)]
 
-mod buffers;
-mod declarations;
-mod functions;
-pub mod laws;
-mod members;
-mod methods;
-mod module;
-mod parser;
-mod parts;
+mod parsing;
 
-pub use module::parse;
+pub use parsing::parse;

@@ -4,14 +4,17 @@ ghost use Rattle.std.specs.Prelude.{◌+◌, ◌<◌, ◌≤◌, ◌^◌, length
 ghost use Rattle.def_token.specs.Lexical.{HasTokens};
 ghost use Rattle.def_tree.specs.Limits.{all_open, stmt_entries, whole_entries};
 ghost use Rattle.def_tree.specs.Part.{IsExprPart, IsStmtPart};
-ghost use Rattle.sl_token.specs.View.{tokens_in};
+ghost use Rattle.sl_token.specs.View.{Tells, tokens_in};
 ghost use Rattle.sl_tree.specs.View.{expr_in, stmt_in};
-ghost use Rattle.sl_parse_expr.specs.Parts.{Answers, IsReadTo, TellsFault};
+ghost use Rattle.sl_cursor.specs.Parts.{Answers, IsReadTo, HasFaultFrom};
 
-use crate::ahead::ahead_of;
-use crate::nesting::Nesting;
-use crate::refusal::{ParseRefusal, refusal, refusal_of};
-use crate::source::{Here, Source, Unread};
+use sl_base::Refusal;
+use sl_cursor::nesting::Nesting;
+use sl_cursor::refusal::{refusal, refusal_of};
+use sl_cursor::source::{Here, Source, Unread};
+use sl_look::ahead::ahead_of;
+use sl_machine::whole;
+use sl_stmt::statements;
 use sl_token::Tokens;
 use sl_tree::{ExprTree, StmtTree};
 use std::alloc::Global;
@@ -30,12 +33,12 @@ pub fn expr(
     tokens: &Tokens,
     from: usize,
     depth: u32,
-) -> Result<(ExprTree, usize), ParseRefusal>
+) -> Result<(ExprTree, usize), Refusal>
     requires tokens { HasTokens bytes.now (tokens_in bytes.now tokens.now) }
     requires from { from < length tokens.now }
     ensures read { let source = bytes.now in IfOk result (λ found. IsReadTo IsExprPart (whole_entries (all_open depth))
         (tokens_in source tokens.now) from (expr_in source found.0) found.1) }
-    ensures fault { IfErr result (TellsFault IsExprPart (whole_entries (all_open depth)) (tokens_in bytes.now tokens.now) from) }
+    ensures fault { IfErr result (Tells (HasFaultFrom IsExprPart (whole_entries (all_open depth)) (tokens_in bytes.now tokens.now) from)) }
 {
     let rest = &tokens.as_slice()[from..];
     let ahead = ahead_of(alloc, bytes, rest)?;
@@ -45,7 +48,7 @@ pub fn expr(
         tokens: rest,
         ahead: ahead.as_slice(),
     };
-    let read = source.expr(&Nesting::all(depth), true, &Here::start(rest));
+    let read = whole::expr(&source, &Nesting::all(depth), true, &Here::start(rest));
     part_of(&source, from, read)
 }
 
@@ -63,12 +66,12 @@ pub fn stmt(
     tokens: &Tokens,
     from: usize,
     depth: u32,
-) -> Result<(StmtTree, usize), ParseRefusal>
+) -> Result<(StmtTree, usize), Refusal>
     requires tokens { HasTokens bytes.now (tokens_in bytes.now tokens.now) }
     requires from { from < length tokens.now }
     ensures read { let source = bytes.now in IfOk result (λ found. IsReadTo IsStmtPart (stmt_entries (all_open depth))
         (tokens_in source tokens.now) from (stmt_in source found.0) found.1) }
-    ensures fault { IfErr result (TellsFault IsStmtPart (stmt_entries (all_open depth)) (tokens_in bytes.now tokens.now) from) }
+    ensures fault { IfErr result (Tells (HasFaultFrom IsStmtPart (stmt_entries (all_open depth)) (tokens_in bytes.now tokens.now) from)) }
 {
     let rest = &tokens.as_slice()[from..];
     let ahead = ahead_of(alloc, bytes, rest)?;
@@ -78,7 +81,7 @@ pub fn stmt(
         tokens: rest,
         ahead: ahead.as_slice(),
     };
-    let read = source.stmt(&Nesting::all(depth), &Here::start(rest));
+    let read = statements::stmt(&source, &Nesting::all(depth), &Here::start(rest));
     part_of(&source, from, read)
 }
 
@@ -87,7 +90,7 @@ fn part_of<T: Drop>(
     source: &Source<'_>,
     from: usize,
     read: Result<(T, Here<'_>), Unread>,
-) -> Result<(T, usize), ParseRefusal>
+) -> Result<(T, usize), Refusal>
     requires fits { from + length source.now.tokens.now < 2 ^ 64 }
     requires within { IfOk read (λ found. found.1.place.at ≤ length source.now.tokens.now) }
     ensures { Answers source.now.bytes.now from read.entry result }

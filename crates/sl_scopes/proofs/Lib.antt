@@ -2,4 +2,3 @@ pub mod Clashing
 pub mod Forms
 pub mod Noting
 pub mod Searching
-pub mod Small

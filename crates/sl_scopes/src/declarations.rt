@@ -2,7 +2,8 @@
 
 ghost use Rattle.std.specs.Prelude.{map};
 ghost use Rattle.std.specs.List.{flat_map};
-ghost use Rattle.def_module.specs.Scopes.{args_scope, body_scopes, decl_scopes, item_scopes, member_scopes, members_scopes, module_scopes, params_scope};
+ghost use Rattle.std.specs.Option.{option_map};
+ghost use Rattle.def_module.specs.Scopes.{args_scope, body_scopes, decl_scopes, item_scopes, maybe_body_scopes, member_scopes, members_scopes, module_scopes, params_scope};
 ghost use Rattle.def_module.specs.Twice.{second_name};
 ghost use Rattle.sl_tree.specs.DeclView.{arg_in, block_in, decl_in, item_in, member_in, module_in, param_in};
 ghost use Rattle.sl_scopes.specs.Search.{Ends, items_scopes, twice_in};
@@ -124,8 +125,23 @@ impl Search<'_> {
             (twice_in (item_scopes (item_in source item.now))) result }
     {
         match item {
-            ItemTree::Require(head) => self.args(head.tail.args.as_slice()),
+            ItemTree::Require(require) => {
+                self.args(require.head.tail.args.as_slice())?;
+                self.maybe_body(&require.body)
+            }
             ItemTree::Assoc(_) => Ok(()),
+        }
+    }
+
+    // Looks through a body, if there is one.
+    #[tactic(auto, using(crate::proofs::Searching::twice_none))]
+    fn maybe_body(&self, body: &Option<BlockTree>) -> Result<(), Early>
+        ensures { let source = self.now.source.now in Ends source
+            (twice_in (maybe_body_scopes (option_map (block_in source) body.now))) result }
+    {
+        match body {
+            Some(body) => self.body(body),
+            None => Ok(()),
         }
     }
 

@@ -181,7 +181,7 @@ fn name_of_item(item: &ItemTree) -> Declared
         declared_in source result ∷ [] ≡ item_names (item_in source item.now) }
 {
     match item {
-        ItemTree::Require(head) => Declared::called(head.tail.name),
+        ItemTree::Require(require) => Declared::called(require.head.tail.name),
         ItemTree::Assoc(assoc) => Declared::single(assoc.name),
     }
 }

@@ -1,11 +1,10 @@
 //! What is told of trees that are built by hand.
 
-use crate::{decl_token, declared_twice, not_built, small_number};
+use crate::declared_twice;
 use sl_base::{List, Place};
 use sl_token::{Kind, Span, Token};
 use sl_tree::{
-    AccessTree, AccessWord, AliasTree, DeclTree, ExtensionTree, FieldTree, MemberTree, ModuleTree,
-    TypeTree, TypeWord,
+    AliasTree, DeclTree, ExtensionTree, FieldTree, MemberTree, ModuleTree, TypeTree, TypeWord,
 };
 use std::alloc::Global;
 use std::test::Fail;
@@ -57,27 +56,6 @@ fn the_second_of_two_names_is_told(rt: HostRuntime) -> Result<(), Fail> {
     }))?;
     let tree = ModuleTree { name: None, decls };
     assert_eq!(rt; declared_twice(alloc, source, &tree)?, Some(token(29, 30)));
-    assert_eq!(rt; not_built(source, &tree), None);
-    Ok(())
-}
-
-#[test]
-fn a_word_of_access_is_not_built(rt: HostRuntime) -> Result<(), Fail> {
-    let alloc = rt.alloc();
-    let source = b"public typealias A = int;";
-    let decl = DeclTree::Alias(AliasTree {
-        access: Some(AccessTree {
-            word: AccessWord::Public,
-            token: token(0, 6),
-        }),
-        word: token(7, 16),
-        name: token(17, 18),
-        type_: int(alloc, token(21, 24)),
-    });
-    assert_eq!(rt; decl_token(&decl), token(0, 6));
-    let tree = module_of(alloc, decl)?;
-    assert_eq!(rt; not_built(source, &tree), Some(token(0, 6)));
-    assert_eq!(rt; declared_twice(alloc, source, &tree)?, None);
     Ok(())
 }
 
@@ -110,13 +88,5 @@ fn a_scope_may_have_many_names(rt: HostRuntime) -> Result<(), Fail> {
         }),
     )?;
     assert_eq!(rt; declared_twice(alloc, &source, &tree)?, Some(token(6, 12)));
-    Ok(())
-}
-
-#[test]
-fn a_number_of_decimal_digits_is_small_up_to_the_greatest_int(rt: HostRuntime) -> Result<(), Fail> {
-    assert_eq!(rt; small_number(b"2147483647"), Some(2147483647));
-    assert_eq!(rt; small_number(b"2147483648"), None);
-    assert_eq!(rt; small_number(b"0x1"), None);
     Ok(())
 }

@@ -1,8 +1,8 @@
 //! Which name a module declares twice.
 
-ghost use Rattle.std.specs.Prelude.{◌≡◌, IfOk};
+ghost use Rattle.std.specs.Prelude.{IfOk};
 ghost use Rattle.std.specs.Option.{option_map};
-ghost use Rattle.def_module.specs.Twice as twice;
+ghost use Rattle.def_module.specs.Twice.{DeclaresTwice};
 ghost use Rattle.sl_token.specs.View.{token_in};
 ghost use Rattle.sl_tree.specs.DeclView.{module_in};
 
@@ -22,8 +22,8 @@ pub fn declared_twice(
     source: &[u8],
     tree: &ModuleTree,
 ) -> Result<Option<Token>, NoMemory>
-    ensures { IfOk result (λ name. option_map (token_in source.now) name
-        ≡ twice.declared_twice (module_in source.now tree.now)) }
+    ensures { IfOk result (λ name. DeclaresTwice (module_in source.now tree.now)
+        (option_map (token_in source.now) name)) }
 {
     let search = Search { alloc, source };
     match search.module(tree) {

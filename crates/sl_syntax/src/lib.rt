@@ -2,10 +2,8 @@
 #![tactic(auto)]
 
 mod front_end;
-mod refusal;
 
 pub use front_end::syntax;
-pub use refusal::SyntaxRefusal;
 
 #[cfg(test)]
 mod tests;

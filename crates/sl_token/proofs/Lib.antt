@@ -1,6 +1,7 @@
 pub mod Comments
 pub mod Fronts
 pub mod Heads
+pub mod Lines
 pub mod Marks
 pub mod Numbers
 pub mod Reached

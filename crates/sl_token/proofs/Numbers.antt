@@ -1,6 +1,7 @@
 -- Reading digits and types.
 use Rattle.std.proofs.Common.{◌≡◌, ℕ, zero, suc, ◌<◌, ◌≤◌, ◌^◌, Bool, true, false, cond, List, [], ◌∷◌, length, refl, sym, ap, subst, ◌∙◌, arith, eqb, ⊎_elim}
-use Rattle.std.specs.Prelude.{Option, Some, None, find, nat_le}
+use Rattle.std.specs.Prelude.{IfSome, IfNone, Option, Some, None, find, nat_le}
+use Rattle.law_token.proofs.Numbers.{told}
 use Rattle.std.specs.Char.{digit_value}
 use Rattle.std.specs.List.{list_all}
 use Rattle.std.specs.Option.{option_map}
@@ -82,11 +83,25 @@ utf8_digits base digits h = IsUtf8-from_ascii digits (ascii base digits h)
 
 -- what is a numeral and was not parsed is too large
 pub too_large : (base : Base) (digits : List ℕ) → 0 < length digits → list_all (is_digit_of base) digits ≡ true → (radix : ℕ) → radix ≡ radix_of base
-    → (IsNumeral radix (without_leading_plus digits) × (digits_value radix (without_leading_plus digits) < 2 ^ 32) → ⊥)
-    → 2 ^ 32 ≤ digits_value (radix_of base) digits
+    → (IsNumeral radix (without_leading_plus digits) × (digits_value radix (without_leading_plus digits) < 2 ^ 64) → ⊥)
+    → 2 ^ 64 ≤ digits_value (radix_of base) digits
 too_large base digits some all radix is not_parsed =
     let plain = no_plus base digits all in
-    let not_small : (IsNumeral (radix_of base) digits × (digits_value (radix_of base) digits < 2 ^ 32) → ⊥) =
-    subst (λ ds. (IsNumeral (radix_of base) ds × (digits_value (radix_of base) ds < 2 ^ 32) → ⊥)) plain
-    (subst (λ r. (IsNumeral r (without_leading_plus digits) × (digits_value r (without_leading_plus digits) < 2 ^ 32) → ⊥)) is not_parsed) in
-    ⊎_elim (λ small. absurd (not_small ((some, all_digits base digits all), small))) (λ large. large) (cases_lt (digits_value (radix_of base) digits) (2 ^ 32))
+    let not_small : (IsNumeral (radix_of base) digits × (digits_value (radix_of base) digits < 2 ^ 64) → ⊥) =
+    subst (λ ds. (IsNumeral (radix_of base) ds × (digits_value (radix_of base) ds < 2 ^ 64) → ⊥)) plain
+    (subst (λ r. (IsNumeral r (without_leading_plus digits) × (digits_value r (without_leading_plus digits) < 2 ^ 64) → ⊥)) is not_parsed) in
+    ⊎_elim (λ small. absurd (not_small ((some, all_digits base digits all), small))) (λ large. large) (cases_lt (digits_value (radix_of base) digits) (2 ^ 64))
+
+-- the number that is told is the one that a word spells
+pub some_spelled : (word : List ℕ) (o : Option Number) → option_map number_in o ≡ definition.number_of word
+    → IfSome o (λ number. definition.IsNumber word (number_in number))
+some_spelled word None h = tt
+some_spelled word (Some number) h = (told word (number_in number)).0 (sym h)
+
+no_number : (o : Option definition.Number) (number : definition.Number) → o ≡ None → o ≡ Some number → ⊥
+no_number o number h k = cc
+
+pub none_spelled : (word : List ℕ) (o : Option Number) → option_map number_in o ≡ definition.number_of word
+    → IfNone o ((number : definition.Number) → definition.IsNumber word number → ⊥)
+none_spelled word None h = λ number is. no_number (definition.number_of word) number (sym h) ((told word number).1 is)
+none_spelled word (Some number) h = tt

@@ -11,15 +11,15 @@ use Rattle.std.proofs.lemmas.Slice.Eq.{bytes_eq-Decides}
 use Rattle.std.proofs.Math.Seq.{take-append_seam, drop-append_seam}
 use Rattle.def_token.specs.Lexeme.{Class, Piece, Front, Cuts, is_in_line, is_line_feed}
 use Rattle.def_token.specs.Lexical as definition
-use Rattle.def_token.specs.Lexical.{End, HasTokens, IsFault, IsToken, Skipped, Verdict, bytes_of, is_faultless, mark_before, no_fault, place_behind, token_behind, tokens_among, tokens_by, tokens_of, verdict}
+use Rattle.def_token.specs.Lexical.{End, HasLexicalFault, HasTokens, IsFault, IsToken, Skipped, Verdict, bytes_of, is_faultless, mark_before, no_fault, place_behind, token_behind, tokens_among, tokens_by, tokens_of, verdict}
 use Rattle.def_slang.specs.Token.{byte_order_mark, without_mark}
 use Rattle.sl_token.proofs.Fronts.{first_is, first_some}
 use Rattle.sl_token.proofs.Heads.{IsFirst, front_of}
 use Rattle.sl_token.specs.Cutting.{Cut, first_piece, piece_by}
-use Rattle.sl_token.specs.Moving.{Adds, IsBehind, IsTokenAt, Tells, mark_len, place_after}
-use Rattle.sl_token.specs.View.{IsWithin, TellsFault, place_of, slice_of, token_in, tokens_in}
-use Rattle.sl_token.specs.declared.lexer.LexRefusal.{LexRefusal}
-use Rattle.sl_token.specs.declared.lexer.LexRefusal.TheVariants as refusals
+use Rattle.sl_token.specs.Moving.{Adds, IsBehind, IsTokenAt, TellsVerdict, mark_len, place_after}
+use Rattle.sl_token.specs.View.{IsWithin, Tells, place_of, slice_of, token_in, tokens_in}
+use Rattle.sl_base.specs.declared.refusal.Refusal.{Refusal}
+use Rattle.sl_base.specs.declared.refusal.Refusal.TheVariants as refusals
 use Rattle.sl_token.specs.declared.position.Position.{Position}
 use Rattle.sl_token.specs.declared.token.Token.{Token}
 
@@ -238,8 +238,8 @@ pub all_within : (text : List ℕ) (tokens new : List Token) (here : Position) (
 all_within text tokens new here token r adds at = (end_added text tokens new here token r adds at).within r.within
 
 -- a fault
-pub has_fault : (text : List ℕ) (tokens : List Token) (rest : List ℕ) (here : Position) (piece : Piece) (after : List ℕ) (refusal : LexRefusal) → Reached text tokens rest here
-    → Front rest piece after → Tells (verdict piece) piece.bytes here.place refusal → TellsFault text refusal
+pub has_fault : (text : List ℕ) (tokens : List Token) (rest : List ℕ) (here : Position) (piece : Piece) (after : List ℕ) (refusal : Refusal) → Reached text tokens rest here
+    → Front rest piece after → TellsVerdict (verdict piece) piece.bytes here.place refusal → Tells (HasLexicalFault text) refusal
 has_fault text tokens rest here piece after (refusals.Diag at code args) r front h =
     record {
       pieces = r.pieces;

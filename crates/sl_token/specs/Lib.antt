@@ -1,5 +1,6 @@
 pub use Rattle.def_slang.specs.Keyword
 pub use Rattle.def_token.specs.Lexeme
+pub use Rattle.def_token.specs.Lexed
 pub use Rattle.def_token.specs.Lexical
 pub use Rattle.def_token.specs.Mark
 pub use Rattle.def_token.specs.Number

@@ -5,13 +5,13 @@ use Rattle.def_token.specs.Lexeme.{is_line_feed}
 use Rattle.def_token.specs.Lexical as definition
 use Rattle.def_slang.specs.Token.{byte_order_mark}
 use Rattle.sl_token.specs.View.{place_of, kind_of}
-use Rattle.sl_token.specs.declared.lexer.LexRefusal.{LexRefusal}
-use Rattle.sl_token.specs.declared.lexer.LexRefusal.TheVariants as refusal
 use Rattle.sl_token.specs.declared.position.Position.{Position}
 use Rattle.sl_token.specs.declared.token.Token.{Token}
 use Rattle.sl_token.specs.declared.verdict.Verdict.{Verdict}
 use Rattle.sl_token.specs.declared.verdict.Verdict.TheVariants as verdict
 use Rattle.sl_base.specs.declared.place.Place.{Place}
+use Rattle.sl_base.specs.declared.refusal.Refusal.{Refusal}
+use Rattle.sl_base.specs.declared.refusal.Refusal.TheVariants as refusal
 
 -- the place behind one more byte
 abbrev pub next_place : definition.Place → ℕ → definition.Place
@@ -58,9 +58,9 @@ pub record Refuses (verdict : definition.Verdict) (bytes : List ℕ) (here : Pla
   pub args_are : args ≡ definition.args_of code bytes
 
 -- a refusal tells the fault of a verdict, if memory did not run out
-abbrev pub Tells : definition.Verdict → List ℕ → Place → LexRefusal → Type 0
-Tells v bytes here (refusal.Diag at code args) = Refuses v bytes here at code args
-Tells v bytes here refusal.NoMemory = Unit {0}
+abbrev pub TellsVerdict : definition.Verdict → List ℕ → Place → Refusal → Type 0
+TellsVerdict v bytes here (refusal.Diag at code args) = Refuses v bytes here at code args
+TellsVerdict v bytes here refusal.NoMemory = Unit {0}
 
 -- how many bytes the byte order mark has that a source begins with
 abbrev pub mark_len : List ℕ → ℕ

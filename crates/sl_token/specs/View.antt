@@ -1,9 +1,9 @@
 -- The tokens, numbers and faults that the types of this crate stand for.
 use Rattle.std.specs.Prelude.{ℕ, ◌-◌, ◌≤◌, List, map, take, drop}
 use Rattle.sl_base.specs.declared.place.Place.{Place}
+use Rattle.sl_base.specs.declared.refusal.Refusal.{Refusal}
+use Rattle.sl_base.specs.declared.refusal.Refusal.TheVariants as refusal
 use Rattle.sl_token.specs.declared.token.Span.{Span}
-use Rattle.sl_token.specs.declared.lexer.LexRefusal.{LexRefusal}
-use Rattle.sl_token.specs.declared.lexer.LexRefusal.TheVariants as refusal
 use Rattle.sl_token.specs.declared.number.Number.{Number}
 use Rattle.sl_token.specs.declared.number.NumberType.{NumberType}
 use Rattle.sl_token.specs.declared.number.NumberType.TheVariants as number_type
@@ -50,16 +50,17 @@ token_in source token =
 abbrev pub tokens_in : List ℕ → List Token → List definition.Token
 tokens_in source tokens = map (token_in source) tokens
 
--- a refusal is the text's fault, if memory did not run out
-abbrev pub TellsFault : List ℕ → LexRefusal → Type 0
-TellsFault text (refusal.Diag at code args) =
-    definition.HasFault text (record { place = place_of at; code = code; args = args })
-TellsFault text refusal.NoMemory = Unit {0}
+-- a refusal tells a fault for which this holds, if memory did not run out
+abbrev pub Tells : (definition.Fault → Type 0) → Refusal → Type 0
+Tells IsTold (refusal.Diag at code args) = IsTold (record { place = place_of at; code = code; args = args })
+Tells IsTold refusal.NoMemory = Unit {0}
 
 -- a number's type as the definitions have it
 abbrev pub type_of : NumberType → numbers.NumberType
 type_of number_type.Int = numbers.Int
 type_of number_type.Uint = numbers.Uint
+type_of number_type.Int64 = numbers.Int64
+type_of number_type.Uint64 = numbers.Uint64
 
 -- a number as the definitions have it
 abbrev pub number_in : Number → numbers.Number

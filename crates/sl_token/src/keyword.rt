@@ -5,7 +5,7 @@ ghost use Rattle.std.specs.List.{list_any};
 ghost use Rattle.std.specs.Str.{bytes_eq};
 ghost use Rattle.def_slang.specs.Keyword.{is_keyword};
 
-const KEYWORDS: [&str; 42] = [
+const KEYWORDS: [&str; 44] = [
     "module",
     "import",
     "__exported",
@@ -32,6 +32,8 @@ const KEYWORDS: [&str; 42] = [
     "numthreads",
     "int",
     "uint",
+    "int64_t",
+    "uint64_t",
     "bool",
     "void",
     "uint3",

@@ -2,44 +2,23 @@
 
 ghost use Rattle.std.specs.Prelude.{◌≡◌, ◌+◌, ◌<◌, ◌≤◌, ◌^◌, length, IfOk, IfErr, OnOk, slice_index};
 ghost use Rattle.std.specs.List.{All};
-ghost use Rattle.def_token.specs.Lexical.{HasTokens, args_of, hexadecimal_byte, hexadecimal_digit, IsFault, verdict_of};
+ghost use Rattle.def_token.specs.Lexical.{HasTokens, HasLexicalFault, args_of, hexadecimal_byte, hexadecimal_digit, IsFault, verdict_of};
 ghost use Rattle.sl_token.specs.Cutting.{class_of};
-ghost use Rattle.sl_token.specs.Moving.{Adds, Tells, mark_len};
-ghost use Rattle.sl_token.specs.View.{IsWithin, TellsFault, tokens_in};
+ghost use Rattle.sl_token.specs.Moving.{Adds, TellsVerdict, mark_len};
+ghost use Rattle.sl_token.specs.View.{IsWithin, Tells, tokens_in};
 
 use crate::piece::{Class, first_piece};
 use crate::position::Position;
 use crate::token::{Kind, Tokens};
 use crate::verdict::{UNEXPECTED_BYTE, Verdict, verdict_of};
-use sl_base::{Bytes, List, NoMemory, Place};
+use sl_base::{Bytes, List, NoMemory, Place, Refusal};
 use std::alloc::Global;
 
 /// The UTF-8 byte order mark (Unicode, 23.8, "Specials").
 const BYTE_ORDER_MARK: [u8; 3] = [0xef, 0xbb, 0xbf];
 
-/// Why a source was not made tokens.
-#[derive(Debug, Drop)]
-pub enum LexRefusal {
-    /// The first lexical fault of the source, as a diagnostic.
-    Diag {
-        at: Place,
-        code: u16,
-        args: List<Bytes>,
-    },
-    /// Memory ran out.
-    NoMemory,
-}
-
-impl From<NoMemory> for LexRefusal {
-    ghost use Rattle.std.specs.Prelude.{◌≡◌};
-    ghost use Rattle.sl_token.specs.declared.lexer.LexRefusal.TheVariants.{NoMemory};
-
-    ghost from_gives = { λ _ refusal. refusal ≡ NoMemory };
-
-    fn from(_error: NoMemory) -> LexRefusal {
-        LexRefusal::NoMemory
-    }
-}
+/// Why a source was not made tokens: its first lexical fault, or memory ran out.
+pub type LexRefusal = Refusal;
 
 /// The tokens of a source, or its first lexical fault. Faults are E101 (a byte that begins no
 /// token), E102 (a comment without an end), E103 (a bad number), E104 (a name of more than 255
@@ -50,7 +29,7 @@ pub fn lex(alloc: Global, bytes: &[u8]) -> Result<Tokens, LexRefusal>
     requires { length bytes.now + 1 < 2 ^ 32 }
     ensures tokens { IfOk result (λ tokens. HasTokens bytes.now (tokens_in bytes.now tokens)) }
     ensures within { IfOk result (All (λ token. IsWithin (length bytes.now) token.span)) }
-    ensures fault { IfErr result (TellsFault bytes.now) }
+    ensures fault { IfErr result (Tells (HasLexicalFault bytes.now)) }
 {
     let mut tokens = List::new(alloc);
     let (mark, mut rest) = bytes.split_at(mark_len(bytes));
@@ -59,7 +38,7 @@ pub fn lex(alloc: Global, bytes: &[u8]) -> Result<Tokens, LexRefusal>
         let (class, len) = first_piece(rest);
         let (piece, after) = rest.split_at(len);
         put(alloc, &mut tokens, here, class, piece)?;
-        here = here.behind(piece);
+        here = here.past(class, piece);
         rest = after;
     }
     tokens.push(here.token(Kind::End, &[]))?;
@@ -85,11 +64,11 @@ fn put(
     here: Position,
     class: Class,
     piece: &[u8],
-) -> Result<(), LexRefusal>
+) -> Result<(), Refusal>
     requires { here.offset + length piece.now < 2 ^ 32 }
     ensures ok { OnOk result
         (Adds (verdict_of (class_of class) piece.now) here (length piece.now) tokens.old tokens.new) }
-    ensures err { IfErr result (Tells (verdict_of (class_of class) piece.now) piece.now here.place) }
+    ensures err { IfErr result (TellsVerdict (verdict_of (class_of class) piece.now) piece.now here.place) }
 {
     match verdict_of(class, piece) {
         Verdict::Skipped => Ok(()),
@@ -102,12 +81,12 @@ fn put(
 }
 
 /// The refusal of a piece with a fault at a place.
-fn refusal(alloc: Global, at: Place, code: u16, piece: &[u8]) -> LexRefusal
-    ensures { Tells (IsFault code) piece.now at result }
+fn refusal(alloc: Global, at: Place, code: u16, piece: &[u8]) -> Refusal
+    ensures { TellsVerdict (IsFault code) piece.now at result }
 {
     match args_of(alloc, code, piece) {
-        Ok(args) => LexRefusal::Diag { at, code, args },
-        Err(NoMemory) => LexRefusal::NoMemory,
+        Ok(args) => Refusal::Diag { at, code, args },
+        Err(NoMemory) => Refusal::NoMemory,
     }
 }
 

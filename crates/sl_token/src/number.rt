@@ -15,13 +15,15 @@ ghost use Rattle.sl_token.specs.View.{number_in};
 pub enum NumberType {
     Int,
     Uint,
+    Int64,
+    Uint64,
 }
 
 /// What a number is.
 #[derive(Clone, Copy, Debug, PartialEq, Eq)]
 pub struct Number {
     pub number_type: NumberType,
-    pub value: u32,
+    pub value: u64,
 }
 
 /// How the digits of a number are written.
@@ -32,7 +34,7 @@ enum Base {
 }
 
 /// A type, and the greatest value that a number of it can have.
-type Range = (NumberType, u32);
+type Range = (NumberType, u64);
 
 /// A suffix, and which types a decimal and a hexadecimal number with it can have.
 #[derive(Clone, Copy, Debug)]
@@ -46,7 +48,11 @@ const INT: Range = (NumberType::Int, 2147483647);
 
 const UINT: Range = (NumberType::Uint, 4294967295);
 
-const SUFFIXES: [Suffix; 3] = [
+const INT64: Range = (NumberType::Int64, 9223372036854775807);
+
+const UINT64: Range = (NumberType::Uint64, 18446744073709551615);
+
+const SUFFIXES: [Suffix; 7] = [
     Suffix {
         text: "",
         decimal: &[INT],
@@ -62,11 +68,40 @@ const SUFFIXES: [Suffix; 3] = [
         decimal: &[UINT],
         hexadecimal: &[UINT],
     },
+    Suffix {
+        text: "ll",
+        decimal: &[INT64],
+        hexadecimal: &[INT64],
+    },
+    Suffix {
+        text: "LL",
+        decimal: &[INT64],
+        hexadecimal: &[INT64],
+    },
+    Suffix {
+        text: "ull",
+        decimal: &[UINT64],
+        hexadecimal: &[UINT64],
+    },
+    Suffix {
+        text: "ULL",
+        decimal: &[UINT64],
+        hexadecimal: &[UINT64],
+    },
 ];
 
 /// The number that a word is, if it is one: decimal digits without a leading zero, or `0x` and
 /// hexadecimal digits, and then a suffix, of a value that a type of the suffix has.
 pub fn number_of(word: &[u8]) -> Option<Number>
+    ensures some { IfSome result (λ number. definition.IsNumber word.now (number_in number)) }
+    ensures none { IfNone result ((number : definition.Number) → definition.IsNumber word.now number → ⊥) }
+    ensures value { option_map number_in result ≡ definition.number_of word.now }
+{
+    number_told(word)
+}
+
+/// The number of a word, by its prefix.
+fn number_told(word: &[u8]) -> Option<Number>
     ensures { option_map number_in result ≡ definition.number_of word.now }
 {
     if word.starts_with(b"0x") {
@@ -131,14 +166,14 @@ fn may_lead(base: Base, digits: &[u8]) -> bool
     }
 }
 
-/// The value of digits, where it is below 2^32.
-fn value_of(base: Base, digits: &[u8]) -> Option<u32>
+/// The value of digits, where it is below 2^64.
+fn value_of(base: Base, digits: &[u8]) -> Option<u64>
     requires some { 0 < length digits.now }
     requires digits { IsTrue (list_all (definition.is_digit_of (base_in base)) digits.now) }
     ensures value { IfSome result
         (λ value. value ≡ digits_value (definition.radix_of (base_in base)) digits.now) }
     ensures large { IfNone result
-        (2 ^ 32 ≤ digits_value (definition.radix_of (base_in base)) digits.now) }
+        (2 ^ 64 ≤ digits_value (definition.radix_of (base_in base)) digits.now) }
 {
     match str::from_utf8(digits) {
         Ok(text) => parsed(base, text),
@@ -146,16 +181,16 @@ fn value_of(base: Base, digits: &[u8]) -> Option<u32>
     }
 }
 
-/// The value of a text of digits, where it is below 2^32.
-fn parsed(base: Base, text: &str) -> Option<u32>
+/// The value of a text of digits, where it is below 2^64.
+fn parsed(base: Base, text: &str) -> Option<u64>
     requires some { 0 < length text.now }
     requires digits { IsTrue (list_all (definition.is_digit_of (base_in base)) text.now) }
     ensures value { IfSome result
         (λ value. value ≡ digits_value (definition.radix_of (base_in base)) text.now) }
     ensures large { IfNone result
-        (2 ^ 32 ≤ digits_value (definition.radix_of (base_in base)) text.now) }
+        (2 ^ 64 ≤ digits_value (definition.radix_of (base_in base)) text.now) }
 {
-    match u32::from_str_radix(text, radix_of(base)) {
+    match u64::from_str_radix(text, radix_of(base)) {
         Ok(value) => Some(value),
         Err(_) => None,
     }
@@ -197,7 +232,7 @@ fn ranges_of(base: Base, suffix: &Suffix) -> &'static [Range]
 }
 
 /// The number of a value, of the first type that has it.
-fn number_with(ranges: &[Range], value: u32) -> Option<Number>
+fn number_with(ranges: &[Range], value: u64) -> Option<Number>
     ensures { option_map number_in result ≡ definition.number_with (ranges_in ranges.now) value }
 {
     match find_range(ranges, value) {
@@ -209,7 +244,7 @@ fn number_with(ranges: &[Range], value: u32) -> Option<Number>
     }
 }
 
-fn find_range(ranges: &[Range], value: u32) -> Option<&Range>
+fn find_range(ranges: &[Range], value: u64) -> Option<&Range>
     ensures { option_copied result ≡ find (λ range. nat_le value range.1) ranges.now }
 {
     ranges.iter().find(|range| value <= range.1)

@@ -1,9 +1,13 @@
 //! How far the lexer has come in a source.
 
-ghost use Rattle.std.specs.Prelude.{◌≡◌, ◌+◌, ◌<◌, ◌^◌, [], length};
+ghost use Rattle.std.specs.Prelude.{◌≡◌, ◌+◌, ◌<◌, ◌^◌, [], length, IsTrue};
+ghost use Rattle.std.specs.List.{list_all};
+ghost use Rattle.def_token.specs.Lexeme.{IsPiece, is_in_line};
+ghost use Rattle.sl_token.specs.Cutting.{class_of};
 ghost use Rattle.sl_token.specs.View.{kind_of, place_of};
 ghost use Rattle.sl_token.specs.Moving.{IsBehind, IsTokenAt, next_place, place_after};
 
+use crate::piece::Class;
 use crate::token::{Kind, Span, Token};
 use sl_base::Place;
 
@@ -34,6 +38,40 @@ impl Position {
         Position {
             offset: self.offset + bytes.len() as u32,
             place: place_after(self.place, bytes),
+        }
+    }
+
+    /// The position behind a piece of a class. A word has no line end.
+    pub fn past(self, class: Class, piece: &[u8]) -> Position
+        requires offset { self.offset + length piece.now < 2 ^ 32 }
+        requires line { self.place.line + length piece.now < 2 ^ 32 }
+        requires column { self.place.column + length piece.now < 2 ^ 32 }
+        requires piece { IsPiece (class_of class) piece.now }
+        ensures offset { result.offset ≡ self.offset + length piece.now }
+        ensures place { place_of result.place ≡ place_after (place_of self.place) piece.now }
+    {
+        match class {
+            Class::Word => self.along(piece),
+            _ => self.behind(piece),
+        }
+    }
+
+    /// The position behind more bytes of the same line.
+    fn along(self, bytes: &[u8]) -> Position
+        requires offset { self.offset + length bytes.now < 2 ^ 32 }
+        requires column { self.place.column + length bytes.now < 2 ^ 32 }
+        requires line { IsTrue (list_all is_in_line bytes.now) }
+        ensures offset { result.offset ≡ self.offset + length bytes.now }
+        ensures place { place_of result.place ≡ place_after (place_of self.place) bytes.now }
+    {
+        let len = bytes.len() as u32;
+        let place = Place {
+            line: self.place.line,
+            column: self.place.column + len,
+        };
+        Position {
+            offset: self.offset + len,
+            place,
         }
     }
 

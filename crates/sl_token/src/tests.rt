@@ -2,8 +2,8 @@ ghost use Rattle.std.specs.Prelude.{IfOk, length};
 ghost use Rattle.std.specs.List.{All};
 ghost use Rattle.sl_token.specs.View.{IsWithin};
 
-use crate::{Kind, LexRefusal, Number, NumberType, Tokens, is_keyword, lex, number_of, text_at};
-use sl_base::{Bytes, Place};
+use crate::{Kind, Number, NumberType, Tokens, is_keyword, lex, number_of, text_at};
+use sl_base::{Bytes, Place, Refusal};
 use std::process::Abort;
 use std::test::Fail;
 
@@ -13,7 +13,7 @@ const MARKS: [&str; 42] = [
     "-", "*", "/", "%", "&", "|", "^", "~", "!",
 ];
 
-const KEYWORDS: [&str; 42] = [
+const KEYWORDS: [&str; 44] = [
     "module",
     "__exported",
     "import",
@@ -40,6 +40,8 @@ const KEYWORDS: [&str; 42] = [
     "numthreads",
     "int",
     "uint",
+    "int64_t",
+    "uint64_t",
     "bool",
     "void",
     "uint3",
@@ -126,6 +128,28 @@ fn numbers_have_the_types_of_their_values_and_suffixes(rt: HostRuntime) -> Resul
         ("0xFFFFFFFF", NumberType::Uint, 4294967295),
         ("0xabcdefu", NumberType::Uint, 11259375),
         ("0x00000000000000000001", NumberType::Int, 1),
+        ("1ll", NumberType::Int64, 1),
+        (
+            "9223372036854775807LL",
+            NumberType::Int64,
+            9223372036854775807,
+        ),
+        (
+            "0x7FFFFFFFFFFFFFFFll",
+            NumberType::Int64,
+            9223372036854775807,
+        ),
+        ("0ull", NumberType::Uint64, 0),
+        (
+            "18446744073709551615ULL",
+            NumberType::Uint64,
+            18446744073709551615,
+        ),
+        (
+            "0xFFFFFFFFFFFFFFFFull",
+            NumberType::Uint64,
+            18446744073709551615,
+        ),
     ];
     for (word, number_type, value) in table {
         let wanted = Some(Number { number_type, value });
@@ -155,8 +179,16 @@ fn other_words_that_begin_with_a_digit_are_bad_numbers(rt: HostRuntime) -> Resul
         "1uu",
         "1_0",
         "0x1_",
-        "1ll",
         "3u_",
+        "1l",
+        "1lL",
+        "1uLL",
+        "1llu",
+        "01ll",
+        "9223372036854775808ll",
+        "0x8000000000000000ll",
+        "18446744073709551616ull",
+        "99999999999999999999999ull",
     ];
     for word in table {
         assert!(rt; number_of(word.as_bytes()).is_none(), "{word}");
@@ -270,7 +302,7 @@ fn the_first_fault_is_told(rt: HostRuntime) -> Result<(), Fail> {
 }
 
 /// The tokens of a source, which is short.
-fn tokens_of(rt: &(impl Abort + AllocGlobal), source: &[u8]) -> Result<Tokens, LexRefusal>
+fn tokens_of(rt: &(impl Abort + AllocGlobal), source: &[u8]) -> Result<Tokens, Refusal>
     ensures { IfOk result (All (λ token. IsWithin (length source.now) token.span)) }
 {
     assert!(rt; source.len() < 1000);
@@ -335,7 +367,7 @@ fn expect_fault(
     arg: Option<&str>,
 ) -> Result<(), Fail> {
     let Err(
-        LexRefusal::Diag {
+        Refusal::Diag {
             at,
             code: told,
             args,

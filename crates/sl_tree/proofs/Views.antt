@@ -42,11 +42,11 @@ unfolding expr_in
 expr_in-Number source token =
     ap (expr_in source) (sym (expr.rolls-Number token)) ∙ fold-roll-ExprTree exprs.ExprTree (expr_by source) (ExprTree-F.Number token)
 
-pub expr_in-Truth : (source : List ℕ) (value : Bool) (token : Token)
-    → expr_in source (expr.Truth value token) ≡ exprs.Truth value (token_in source token)
+pub expr_in-BooleanLiteral : (source : List ℕ) (value : Bool) (token : Token)
+    → expr_in source (expr.BooleanLiteral value token) ≡ exprs.BooleanLiteral value (token_in source token)
 unfolding expr_in
-expr_in-Truth source value token =
-    ap (expr_in source) (sym (expr.rolls-Truth value token)) ∙ fold-roll-ExprTree exprs.ExprTree (expr_by source) (ExprTree-F.Truth value token)
+expr_in-BooleanLiteral source value token =
+    ap (expr_in source) (sym (expr.rolls-BooleanLiteral value token)) ∙ fold-roll-ExprTree exprs.ExprTree (expr_by source) (ExprTree-F.BooleanLiteral value token)
 
 pub expr_in-Itself : (source : List ℕ) (token : Token)
     → expr_in source (expr.Itself token) ≡ exprs.Itself (token_in source token)
@@ -60,11 +60,11 @@ unfolding expr_in
 expr_in-Name source token args =
     ap (expr_in source) (sym (expr.rolls-Name token args)) ∙ fold-roll-ExprTree exprs.ExprTree (expr_by source) (ExprTree-F.Name token args)
 
-pub expr_in-Conversion : (source : List ℕ) (w : TypeWord) (token : Token) (operand : ExprTree)
-    → expr_in source (expr.Conversion w token operand) ≡ exprs.Conversion (word_of w) (token_in source token) (expr_in source operand)
+pub expr_in-FunctionalCast : (source : List ℕ) (w : TypeWord) (token : Token) (operand : ExprTree)
+    → expr_in source (expr.FunctionalCast w token operand) ≡ exprs.FunctionalCast (word_of w) (token_in source token) (expr_in source operand)
 unfolding expr_in
-expr_in-Conversion source w token operand =
-    ap (expr_in source) (sym (expr.rolls-Conversion w token operand)) ∙ fold-roll-ExprTree exprs.ExprTree (expr_by source) (ExprTree-F.Conversion w token operand)
+expr_in-FunctionalCast source w token operand =
+    ap (expr_in source) (sym (expr.rolls-FunctionalCast w token operand)) ∙ fold-roll-ExprTree exprs.ExprTree (expr_by source) (ExprTree-F.FunctionalCast w token operand)
 
 pub expr_in-OwnType : (source : List ℕ) (token : Token)
     → expr_in source (expr.OwnType token) ≡ exprs.OwnType (token_in source token)

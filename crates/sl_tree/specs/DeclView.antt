@@ -37,6 +37,7 @@ use Rattle.sl_tree.specs.declared.members.ModeTree.{ModeTree}
 use Rattle.sl_tree.specs.declared.members.ModeWord.{ModeWord}
 use Rattle.sl_tree.specs.declared.members.ModeWord.TheVariants as mode
 use Rattle.sl_tree.specs.declared.members.ParamTree.{ParamTree}
+use Rattle.sl_tree.specs.declared.members.RequireTree.{RequireTree}
 use Rattle.sl_tree.specs.declared.members.TailTree.{TailTree}
 use Rattle.sl_tree.specs.declared.members.WhereTree.{WhereTree}
 
@@ -133,6 +134,11 @@ head_in source head =
       tail = tail_in source head.tail;
     }
 
+-- a requirement over a source
+abbrev pub require_in : List ℕ → RequireTree → trees.RequireTree
+require_in source require =
+    record { head = head_in source require.head; body = option_map (block_in source) require.body }
+
 -- the method that a tree stands for
 abbrev pub method_in : List ℕ → MethodTree → trees.MethodTree
 method_in source method =
@@ -161,7 +167,7 @@ member_in source (member.Alias alias) = trees.MemberAlias (alias_in source alias
 
 -- the item of an interface that a tree stands for
 abbrev pub item_in : List ℕ → ItemTree → trees.ItemTree
-item_in source (item.Require head) = trees.Require (head_in source head)
+item_in source (item.Require require) = trees.Require (require_in source require)
 item_in source (item.Assoc assoc) = trees.Assoc (assoc_in source assoc)
 
 -- the import that a tree stands for

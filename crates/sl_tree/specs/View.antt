@@ -41,6 +41,8 @@ use Rattle.sl_tree.specs.declared.types.TypeWord.TheVariants as word
 abbrev pub word_of : TypeWord → types.TypeWord
 word_of word.Int = types.Int
 word_of word.Uint = types.Uint
+word_of word.Int64 = types.Int64
+word_of word.Uint64 = types.Uint64
 word_of word.Bool = types.Bool'
 word_of word.Void = types.Void
 word_of word.Uint3 = types.Uint3
@@ -127,12 +129,12 @@ type_in source type = fold-TypeTree types.TypeTree (type_by source) type
 -- an expression whose parts stand for these
 abbrev pub expr_by : List ℕ → ExprTree-F exprs.ExprTree → exprs.ExprTree
 expr_by source (expr_layer.Number token) = exprs.Number (token_in source token)
-expr_by source (expr_layer.Truth value token) = exprs.Truth value (token_in source token)
+expr_by source (expr_layer.BooleanLiteral value token) = exprs.BooleanLiteral value (token_in source token)
 expr_by source (expr_layer.Itself token) = exprs.Itself (token_in source token)
 expr_by source (expr_layer.Name token args) =
     exprs.Name (token_in source token) (types_of (map (type_in source) args))
-expr_by source (expr_layer.Conversion word token operand) =
-    exprs.Conversion (word_of word) (token_in source token) operand
+expr_by source (expr_layer.FunctionalCast word token operand) =
+    exprs.FunctionalCast (word_of word) (token_in source token) operand
 expr_by source (expr_layer.OwnType token) = exprs.OwnType (token_in source token)
 expr_by source (expr_layer.Group opening inner) = exprs.Group (token_in source opening) inner
 expr_by source (expr_layer.Call callee opening args) =
@@ -175,11 +177,11 @@ local_in source (local.Inferred binding word name type value) =
 abbrev pub simple_in : List ℕ → SimpleTree → stmts.SimpleTree
 simple_in source (simple.Assign assignment token place value) =
     stmts.Assign (assignment_of assignment) (token_in source token) (expr_in source place) (expr_in source value)
-simple_in source (simple.StepBehind step place token) =
-    stmts.StepBehind (step_of step) (expr_in source place) (token_in source token)
-simple_in source (simple.StepBefore step token place) =
-    stmts.StepBefore (step_of step) (token_in source token) (expr_in source place)
-simple_in source (simple.Alone call) = stmts.Alone (expr_in source call)
+simple_in source (simple.PostfixStep step place token) =
+    stmts.PostfixStep (step_of step) (expr_in source place) (token_in source token)
+simple_in source (simple.PrefixStep step token place) =
+    stmts.PrefixStep (step_of step) (token_in source token) (expr_in source place)
+simple_in source (simple.CallStatement call) = stmts.CallStatement (expr_in source call)
 
 -- what a `for` begins with, as a tree stands for it
 abbrev pub start_in : List ℕ → StartTree → stmts.StartTree

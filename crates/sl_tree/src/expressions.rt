@@ -11,13 +11,13 @@ pub enum ExprTree {
     /// A number.
     Number(Token),
     /// `true` or `false`.
-    Truth(bool, Token),
+    BooleanLiteral(bool, Token),
     /// `this`.
     Itself(Token),
     /// A name with its type arguments, if there are any.
     Name(Token, Items<TypeTree>),
     /// `int(..)`, `uint(..)` or `bool(..)`, by the word.
-    Conversion(TypeWord, Token, Boxed<ExprTree>),
+    FunctionalCast(TypeWord, Token, Boxed<ExprTree>),
     /// `This`.
     OwnType(Token),
     /// An expression in brackets, with the opening one.

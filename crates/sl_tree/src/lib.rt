@@ -6,6 +6,7 @@
 
 mod declarations;
 mod expressions;
+mod first;
 mod members;
 mod operators;
 mod statements;
@@ -18,7 +19,8 @@ pub use declarations::{
 pub use expressions::ExprTree;
 pub use members::{
     AccessTree, AccessWord, AliasTree, ArgTree, AssocTree, BlockTree, FieldTree, HeadTree,
-    ItemTree, MemberTree, MethodTree, ModeTree, ModeWord, ParamTree, TailTree, WhereTree,
+    ItemTree, MemberTree, MethodTree, ModeTree, ModeWord, ParamTree, RequireTree, TailTree,
+    WhereTree,
 };
 pub use operators::{Assignment, Operator, Step, UnaryOperator};
 pub use statements::{Binding, Declarator, InitTree, LocalTree, SimpleTree, StartTree, StmtTree};

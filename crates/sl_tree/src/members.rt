@@ -92,12 +92,19 @@ pub struct TailTree {
     pub args: List<ArgTree>,
 }
 
-/// A requirement, with the word `mutating` if it is written.
+/// The head of a requirement, with the word `mutating` if it is written.
 #[derive(Debug, Drop)]
 pub struct HeadTree {
     pub mutating: Option<Token>,
     pub access: Option<AccessTree>,
     pub tail: TailTree,
+}
+
+/// A requirement, and its own body if it has one.
+#[derive(Debug, Drop)]
+pub struct RequireTree {
+    pub head: HeadTree,
+    pub body: Option<BlockTree>,
 }
 
 /// A method, with the words `mutating` and `override` if they are written.
@@ -133,7 +140,7 @@ pub enum MemberTree {
 #[derive(Debug, Drop)]
 pub enum ItemTree {
     /// A requirement.
-    Require(HeadTree),
+    Require(RequireTree),
     /// An associated type.
     Assoc(AssocTree),
 }

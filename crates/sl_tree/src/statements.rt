@@ -45,11 +45,11 @@ pub enum SimpleTree {
     /// The mark's first token, the place, the value.
     Assign(Assignment, Token, ExprTree, ExprTree),
     /// A place with `++` or `--` behind it.
-    StepBehind(Step, ExprTree, Token),
+    PostfixStep(Step, ExprTree, Token),
     /// A place with `++` or `--` before it.
-    StepBefore(Step, Token, ExprTree),
+    PrefixStep(Step, Token, ExprTree),
     /// A call alone.
-    Alone(ExprTree),
+    CallStatement(ExprTree),
 }
 
 /// What a `for` begins with.

@@ -3,21 +3,22 @@ use Rattle.std.specs.Prelude.{IfOk, IfErr, None, true, drop}
 use Rattle.std.proofs.lemmas.List.{drop-map, length-map}
 use Rattle.def_tree.specs.Limits.{Nesting, all_open, whole_entries}
 use Rattle.def_tree.specs.Part.{IsExprPart}
-use Rattle.def_reading.specs.Place.{At}
+use Rattle.def_reading.specs.Cursor.{At}
 use Rattle.def_reading.specs.Try.{expr_in as expr_on_lists}
-use Rattle.sl_token.specs.View.{token_in, tokens_in}
+use Rattle.sl_token.specs.View.{Tells, token_in, tokens_in}
 use Rattle.sl_tree.specs.View.{expr_in}
-use Rattle.sl_parse_expr.specs.Nestings.{nesting_in}
-use Rattle.sl_parse_expr.specs.Parts.{IsReadTo, TellsFault}
-use Rattle.sl_parse_expr.proofs.Answered.{IsExactTry, answered, on_start, tries_come}
-use Rattle.sl_parse_expr.proofs.Exactness.{lexed_ended, expr_lasts, expr_exact}
-use Rattle.sl_parse_expr.proofs.TailEnds.{rest_from}
+use Rattle.sl_cursor.specs.Nestings.{nesting_in}
+use Rattle.sl_cursor.specs.Parts.{IsReadTo, HasFaultFrom}
+use Rattle.sl_stmt.proofs.Answered.{IsExactTry, answered, on_start, tries_come}
+use Rattle.sl_stmt.proofs.Ended.{lexed_ended}
+use Rattle.sl_parse_expr.proofs.Exactness.{expr_lasts, expr_exact}
+use Rattle.sl_look.proofs.TailEnds.{rest_from}
 use Rattle.sl_parse_expr.proofs.parts.expr.Goals as goal
 
 -- both clauses
 both : (c : goal.After-drop-ahead-inside)
     → IfOk c.part_of.result (λ found. IsReadTo IsExprPart (whole_entries (all_open c.args.depth)) (tokens_in c.args.bytes.now c.args.tokens.now) c.args.from (expr_in c.args.bytes.now found.0) found.1)
-    × IfErr c.part_of.result (TellsFault IsExprPart (whole_entries (all_open c.args.depth)) (tokens_in c.args.bytes.now c.args.tokens.now) c.args.from)
+    × IfErr c.part_of.result (Tells (HasFaultFrom IsExprPart (whole_entries (all_open c.args.depth)) (tokens_in c.args.bytes.now c.args.tokens.now) c.args.from))
 both c =
     let source = c.args.bytes.now in
     let all = tokens_in source c.args.tokens.now in

@@ -30,8 +30,13 @@ returns-in_err-put-clause-fault c =
     (has_fault c.args.bytes.now c.loop-rest.tokens rest c.loop-rest.here (record { class = class_of c.first_piece-class.result.0; bytes = piece }) after _
     c.loop-rest.invariant cut.front c.in_err-put.ensures.err)
 
-pub behind-here-requires-in-loop-rest : goal.behind-here-requires-in-loop-rest
-behind-here-requires-in-loop-rest c =
+pub past-here-requires : goal.past-here-requires
+past-here-requires c =
+    let rest = c.loop-rest.rest.now in
+    let some : 0 < length rest = grind (arith, nat_tests, c.loop-rest-test.ensures) in
+    let first = first_at rest (cut_of c.first_piece-class.result) c.first_piece-class.ensures some in
+    let cut = cut_off rest c.split_at-in-loop-rest.result.0.now c.split_at-in-loop-rest.result.1.now (cut_of c.first_piece-class.result) first
+    c.split_at-in-loop-rest.ensures.front c.split_at-in-loop-rest.ensures.back in
     let small = reached_small c.loop-rest.invariant in
     let len = c.split_at-in-loop-rest.ensures.front_len in
     let back = c.split_at-in-loop-rest.ensures.back_len in
@@ -39,6 +44,7 @@ behind-here-requires-in-loop-rest c =
       offset = omega (arith, small.offset, len, back, c.requires);
       line = omega (arith, small.line, len, back, c.requires);
       column = omega (arith, small.column, len, back, c.requires);
+      piece = cut.front.kind;
     }
 
 pub loop-rest-smaller : goal.loop-rest-smaller
@@ -57,9 +63,9 @@ loop-rest-preserved c =
     let piece = c.split_at-in-loop-rest.result.0.now in
     let after = c.split_at-in-loop-rest.result.1.now in
     let cut = cut_off rest piece after (cut_of c.first_piece-class.result) first c.split_at-in-loop-rest.ensures.front c.split_at-in-loop-rest.ensures.back in
-    further c.args.bytes.now c.loop-rest.tokens c.put.new.tokens rest c.loop-rest.here c.behind-here-in-loop-rest.result
+    further c.args.bytes.now c.loop-rest.tokens c.put.new.tokens rest c.loop-rest.here c.past-here.result
     (record { class = class_of c.first_piece-class.result.0; bytes = piece }) after
-    c.loop-rest.invariant cut.front c.in_ok-put.ensures.ok c.behind-here-in-loop-rest.ensures.offset c.behind-here-in-loop-rest.ensures.place
+    c.loop-rest.invariant cut.front c.in_ok-put.ensures.ok c.past-here.ensures.offset c.past-here.ensures.place
 
 pub returns-clause-tokens : goal.returns-clause-tokens
 returns-clause-tokens c =

@@ -1,5 +1,0 @@
-use Rattle.def_module.proofs.Covered.{modules_covered}
-use Rattle.def_module.proofs.laws.entries_cover.Goals as goal
-
-pub returns : goal.returns
-returns c = modules_covered

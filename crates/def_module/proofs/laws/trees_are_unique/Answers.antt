@@ -1,5 +1,0 @@
-use Rattle.def_module.proofs.Unique.{trees_unique}
-use Rattle.def_module.proofs.laws.trees_are_unique.Goals as goal
-
-pub returns : goal.returns
-returns c = trees_unique

@@ -1,5 +1,0 @@
-use Rattle.def_token.proofs.Numbers.{told}
-use Rattle.def_token.proofs.laws.numbers_are_told.Goals as goal
-
-pub returns : goal.returns
-returns c = told

@@ -1,5 +1,0 @@
-use Rattle.def_token.proofs.Determined.{determined}
-use Rattle.def_token.proofs.laws.texts_are_determined.Goals as goal
-
-pub returns : goal.returns
-returns c = determined

@@ -1,5 +1,0 @@
-use Rattle.def_tree.proofs.StmtsCovered.{all_covered}
-use Rattle.def_tree.proofs.laws.entries_cover.Goals as goal
-
-pub returns : goal.returns
-returns c = all_covered

@@ -1,0 +1,4 @@
+//! That what is told of a text is one thing, and that a function tells it.
+#![tactic(auto)]
+
+pub mod laws;

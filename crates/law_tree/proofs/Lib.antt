@@ -1,0 +1,15 @@
+pub mod Covered
+pub mod Depths
+pub mod DepthsCounted
+pub mod Determined
+pub mod ExprDepths
+pub mod Heads
+pub mod Led
+pub mod OperatorSigns
+pub mod Refusals
+pub mod StmtDepths
+pub mod StmtsCovered
+pub mod Symbols
+pub mod Tables
+pub mod TypeEnds
+pub mod Words

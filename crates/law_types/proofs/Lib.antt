@@ -1,0 +1,10 @@
+pub mod AheadComplete
+pub mod AheadFaults
+pub mod AheadKept
+pub mod AheadSound
+pub mod AheadStages
+pub mod LimitSpots
+pub mod Stopping
+pub mod TypeStable
+pub mod TypeStages
+pub mod TypeTurns

@@ -1,0 +1,2 @@
+//! What is read of types: how looks ahead for types end.
+#![tactic(auto)]

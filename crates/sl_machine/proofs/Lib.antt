@@ -1,0 +1,11 @@
+pub mod Counted
+pub mod Finished
+pub mod Joined
+pub mod Keeping
+pub mod Naming
+pub mod Operated
+pub mod Plainly
+pub mod Running
+pub mod Standing
+pub mod Stepping
+pub mod Tables

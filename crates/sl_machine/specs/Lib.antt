@@ -1,0 +1,10 @@
+pub mod Counts
+pub mod Finish
+pub mod Framed
+pub mod Joins
+pub mod Kept
+pub mod Long
+pub mod Marks
+pub mod Runs
+pub mod Steps
+pub mod Words

@@ -1,7 +1,0 @@
-use Rattle.sl_parse_expr.proofs.Looking.{ends_here}
-use Rattle.sl_parse_expr.proofs.machine.Around.ends.Goals as goal
-
-pub returns : goal.returns
-returns c =
-    let all = c.args.self.now.source in
-    ends_here all.bytes.now all.tokens.now c.args.place.now.rest.now all.ahead.now c.args.place.now.at _ all.table all.whole c.requires.rest c.requires.within

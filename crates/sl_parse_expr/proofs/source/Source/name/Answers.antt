@@ -1,9 +1,0 @@
-use Rattle.std.proofs.Common.{sym, ◌∙◌}
-use Rattle.def_reading.specs.TypeAhead.{names}
-use Rattle.sl_parse_expr.proofs.Passing.{passed_token}
-use Rattle.sl_parse_expr.proofs.source.Source.name.Goals as goal
-
-pub returns-in-Some : goal.returns-in-Some
-returns-in-Some c =
-    passed_token c.args.self.now names c.args.here.now c.advance.result c.in-Some.token.now c.in-Some.field-0-1.now c.in-Some.ensures.cases.0
-    (sym c.is_name.ensures ∙ c.if-is_name.true) c.requires c.advance.ensures.place c.advance.ensures.reach

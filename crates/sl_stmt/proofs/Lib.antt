@@ -1,0 +1,9 @@
+pub mod Answered
+pub mod Blocks
+pub mod Deciding
+pub mod Eithers
+pub mod Settling
+pub mod Simples
+pub mod StmtDecides
+pub mod Stmts
+pub mod Ended
