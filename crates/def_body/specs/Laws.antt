@@ -14,20 +14,25 @@ use Rattle.def_body.specs.Part.{Body, run_body}
 pub record IsSound (kind : Kind) (body : Body kind) : Type 0 where
   -- what a body is done with, it is done with under more answers too
   pub done_stays :
-      (m n : Facts) (a : Answer) → run_body kind m body ≡ Done a → IsWithin key_cmp m n → run_body kind n body ≡ Done a
+      (m n : Facts) (a : Answer) → run_body kind m body ≡ Done a → IsWithin key_cmp m n
+      → run_body kind n body ≡ Done a
   -- what it needs, it needs under more answers that lack it
   pub needs_stay :
-      (m n : Facts) (y : Key) → run_body kind m body ≡ Needs y → IsWithin key_cmp m n → get key_cmp n y ≡ None
+      (m n : Facts) (y : Key) → run_body kind m body ≡ Needs y → IsWithin key_cmp m n
+      → get key_cmp n y ≡ None
       → run_body kind n body ≡ Needs y
   -- it needs only what the answers lack
-  pub needs_lacking : (m : Facts) (y : Key) → run_body kind m body ≡ Needs y → get key_cmp m y ≡ None
+  pub needs_lacking : (m : Facts) (y : Key) → run_body kind m body ≡ Needs y
+      → get key_cmp m y ≡ None
   -- a body that uses a key with a circular answer is done with this same answer
   pub circular_stays :
       (m : Facts) (y : Key) (c : List Key)
-      → run_body kind m body ≡ Needs y → run_body kind ((y, Circular c) ∷ m) body ≡ Done (Circular c)
+      → run_body kind m body ≡ Needs y
+      → run_body kind ((y, Circular c) ∷ m) body ≡ Done (Circular c)
   -- it is done with a circular answer only where it uses this same answer of some key
   pub circular_used :
-      (m : Facts) (c : List Key) → run_body kind m body ≡ Done (Circular c) → (y : Key) × (get key_cmp m y ≡ Some (Circular c))
+      (m : Facts) (c : List Key) → run_body kind m body ≡ Done (Circular c)
+      → (y : Key) × (get key_cmp m y ≡ Some (Circular c))
 
 -- all bodies are sound
 abbrev pub BodiesAreSound : Type 0

@@ -12,8 +12,8 @@ use Rattle.sl_key.specs.declared.key.Kind.{Kind}
 use Rattle.def_query.specs.declared.step.Step.{Step}
 use Rattle.def_query.specs.declared.step.Step.TheVariants.{Done}
 
--- a part of a body: a value, a rule that is broken at a site, or the use of a key and what follows from what
--- its answer holds
+-- a part of a body: a value, a rule that is broken at a site, or the use of a key and what follows
+-- from what its answer holds
 pub data Part (A : Type 0) : Type 0 where
   Give : A → Part A
   Break : Site → Fault → Part A
@@ -49,4 +49,5 @@ answer_of kind (Err told) = Bad told
 -- what a body gives under these answers
 abbrev pub run_body : (kind : Kind) → Facts → Body kind → Step Key Answer
 run_body kind facts (Known known) = Done (answer_of kind known)
-run_body kind facts (Reads part) = finished (and_then (run facts part) (λ value. Value (hold kind value)))
+run_body kind facts (Reads part) =
+    finished (and_then (run facts part) (λ value. Value (hold kind value)))

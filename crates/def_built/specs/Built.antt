@@ -1,4 +1,5 @@
--- Which declarations are checked so far: aliases and constants of a small form, without a word of access.
+-- Which declarations are checked so far: aliases and constants of a small form, without a word of
+-- access.
 use Rattle.std.specs.Prelude.{ℕ, Bool, true, false, not, ◌&&◌, nat_le, List, [], find, Option, is_none}
 use Rattle.std.specs.Char.{is_ascii_digit}
 use Rattle.std.specs.List.{list_all}
@@ -35,7 +36,8 @@ is_small_operator Subtract = true
 is_small_operator Multiply = true
 is_small_operator _ = false
 
--- small numbers, truth values, and names without type arguments, under small operators and in brackets
+-- small numbers, truth values, and names without type arguments, under small operators and in
+-- brackets
 abbrev pub is_small_expr : ExprTree → Bool
 is_small_expr (expr.Number token) = is_small_number token.text
 is_small_expr (expr.BooleanLiteral value token) = true

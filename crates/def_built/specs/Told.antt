@@ -1,4 +1,5 @@
--- What the key of a module's syntax tells: what is told of its text, and then the first form that is not checked yet.
+-- What the key of a module's syntax tells: what is told of its text, and then the first form that
+-- is not checked yet.
 use Rattle.std.specs.Prelude.{ℕ, List, [], Option, Some, None}
 use Rattle.def_token.specs.Lexical.{Fault, Token}
 use Rattle.def_module.specs.DeclTree.{ModuleTree}

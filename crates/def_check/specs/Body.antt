@@ -98,7 +98,8 @@ abbrev pub keys_seen : Sources → List ℕ → List Key
 keys_seen sources name =
     flat_map (keys_of sources) (name ∷ map (λ (file : List ℕ × List ℕ). file.0) sources.modules)
 
--- What the rules mean. A key leads no further than the keys of its module and of the modules of the sources.
+-- What the rules mean. A key leads no further than the keys of its module and of the modules of the
+-- sources.
 abbrev pub meaning_of : Sources → Meaning Key Answer
 meaning_of sources = record {
   body = body_of sources;

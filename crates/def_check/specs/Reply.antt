@@ -38,11 +38,13 @@ abbrev pub key_text : Key → List ℕ
 key_text key = path_text key.path
 
 module _ (sources : Sources) (answer : Key → Answer) where
-  -- the place of the name of a key's declaration; a module's own key stands at the module's first place
+  -- the place of the name of a key's declaration; a module's own key stands at the module's first
+  -- place
   abbrev pub key_place : Key → Place
   key_place key =
       let decls = declarations_in (answer (module_key Syntax (module_of key))) in
-      option_map_or place_of (option_and_then name_of (declared_at decls (parts_of key))) first_place
+      option_map_or place_of (option_and_then name_of (declared_at decls (parts_of key)))
+      first_place
 
   -- a cycle is told at its least key
   abbrev pub cycle_told : List Key → List Diag
@@ -90,7 +92,8 @@ abbrev pub site_place : Site → Place
 site_place Whole = first_place
 site_place (Source name at) = at
 
--- the request stands before all modules; sites in modules are ordered by the module, and then by the place
+-- the request stands before all modules; sites in modules are ordered by the module, and then by
+-- the place
 abbrev pub site_cmp : Site → Site → Ordering
 site_cmp =
     then_cmp (on rank_of nat_cmp)
@@ -100,18 +103,21 @@ site_cmp =
 abbrev pub diag_cmp : Diag → Diag → Ordering
 diag_cmp =
     then_cmp (on (λ told. told.site) site_cmp)
-    (then_cmp (on (λ told. told.code) nat_cmp) (on (λ told. message told.code told.args) (slice_cmp nat_cmp)))
+    (then_cmp (on (λ told. told.code) nat_cmp)
+    (on (λ told. message told.code told.args) (slice_cmp nat_cmp)))
 
 -- each diagnostic of the list is less than those behind it
 abbrev pub IsRising : List Diag → Type 0
 IsRising [] = Unit {0}
-IsRising (told ∷ others) = AllByRecursion (λ other. diag_cmp told other ≡ Less) others × IsRising others
+IsRising (told ∷ others) =
+    AllByRecursion (λ other. diag_cmp told other ≡ Less) others × IsRising others
 
 -- the same diagnostics in their order, equal ones once
 pub record IsSortedOnce (all sorted : List Diag) : Type 0 where
   pub rising : IsRising sorted
   pub only : (told : Diag) → IsIn told sorted → IsIn told all
-  pub each : (told : Diag) → IsIn told all → (same : Diag) × (diag_cmp told same ≡ Equal) × IsIn same sorted
+  pub each : (told : Diag) → IsIn told all
+      → (same : Diag) × (diag_cmp told same ≡ Equal) × IsIn same sorted
 
 -- the reply where all this is told
 abbrev pub IsReplyOf : List Diag → Reply → Type 0
@@ -136,11 +142,13 @@ IsReached sources roots key =
 -- each key of the list is less than those behind it
 abbrev pub HasRisingKeys : List Key → Type 0
 HasRisingKeys [] = Unit {0}
-HasRisingKeys (key ∷ keys) = AllByRecursion (λ other. key_cmp key other ≡ Less) keys × HasRisingKeys keys
+HasRisingKeys (key ∷ keys) =
+    AllByRecursion (λ other. key_cmp key other ≡ Less) keys × HasRisingKeys keys
 
 -- All keys that requests come to, in their order. Their number is the work of the requests.
 pub record IsClosure (sources : Sources) (requests : List Request) (keys : List Key) : Type 0 where
   pub answer : Key → Answer
   pub answers : TellsAnswers sources answer
   pub rising : HasRisingKeys keys
-  pub reached : (key : Key) → IsIn key keys ↔ IsReached sources (flat_map (roots_of sources answer) requests) key
+  pub reached : (key : Key)
+      → IsIn key keys ↔ IsReached sources (flat_map (roots_of sources answer) requests) key

@@ -17,7 +17,8 @@ use Rattle.def_sources.specs.Sources.{Sources}
 module _ (sources : Sources) (answer : Key → Answer) where
   -- behind a module's syntax its imports are asked, and the key of each declaration in order
   abbrev pub behind_syntax : List ℕ → Answer → List Key
-  behind_syntax name (Good (held.Syntax text)) = module_key Imports name ∷ keys_of name (decls_in text)
+  behind_syntax name (Good (held.Syntax text)) =
+      module_key Imports name ∷ keys_of name (decls_in text)
   behind_syntax name _ = []
 
   -- the keys that are asked for a module with these bytes, and none for an absent module
@@ -30,7 +31,8 @@ module _ (sources : Sources) (answer : Key → Answer) where
   abbrev pub asked_for : List ℕ → List Key
   asked_for name = asked_of name (bytes_of sources.modules name)
 
-  -- what an answer points to: the key at fault, or the syntax of the module that has a cycle's least key
+  -- what an answer points to: the key at fault, or the syntax of the module that has a cycle's
+  -- least key
   abbrev pub pointed_to : Answer → List Key
   pointed_to (Good value) = []
   pointed_to (Bad told) = []

@@ -1,5 +1,6 @@
--- Types, values, and how values are converted and combined. An integer type has a width, in bits: its
--- values are residues modulo 2 to the width, which an int shows as the numbers from the least negative one.
+-- Types, values, and how values are converted and combined. An integer type has a width, in bits:
+-- its values are residues modulo 2 to the width, which an int shows as the numbers from the least
+-- negative one.
 use Rattle.std.specs.Prelude.{ℕ, ◌+◌, ◌-◌, ◌*◌, ◌%◌, ◌^◌, Option, Some, None, ℤ}
 use mir.Val.{bits}
 use Rattle.std.specs.Int.{Width, w32, cast_signed, cast_unsigned, int_wrapping_add, int_wrapping_sub, int_wrapping_mul}
@@ -21,8 +22,8 @@ type_of (Uint number) = type.Uint
 abbrev pub width : Width
 width = w32
 
--- A value as one of a type. A value of the type stays, and int and uint are converted to each other; no
--- other conversion exists.
+-- A value as one of a type. A value of the type stays, and int and uint are converted to each
+-- other; no other conversion exists.
 abbrev pub converted : Ty → Value → Option Value
 converted type.Bool (Bool truth) = Some (Bool truth)
 converted type.Int (Int number) = Some (Int number)
@@ -53,8 +54,10 @@ uint_result w Multiply x y = (x * y) % 2 ^ bits w
 -- An operator on two values. It takes integers; with a uint on one side both become uint.
 abbrev pub result_of : Arithmetic → Value → Value → Option Value
 result_of operator (Int x) (Int y) = Some (Int (int_result width operator x y))
-result_of operator (Int x) (Uint y) = Some (Uint (uint_result width operator (cast_unsigned width x) y))
-result_of operator (Uint x) (Int y) = Some (Uint (uint_result width operator x (cast_unsigned width y)))
+result_of operator (Int x) (Uint y) =
+    Some (Uint (uint_result width operator (cast_unsigned width x) y))
+result_of operator (Uint x) (Int y) =
+    Some (Uint (uint_result width operator x (cast_unsigned width y)))
 result_of operator (Uint x) (Uint y) = Some (Uint (uint_result width operator x y))
 result_of operator _ _ = None
 

@@ -17,7 +17,8 @@ use Rattle.def_core.specs.Replay.{caller_of, outcome, after, replay}
 use Rattle.def_core.specs.Legal.{Legal}
 
 module _ {K A : Type 0} (cmp : K → K → Ordering) (r : Meaning K A) where
-  -- each published pair is of a key and its answer, and each cycle that an Ask came to is that of its key
+  -- each published pair is of a key and its answer, and each cycle that an Ask came to is that of
+  -- its key
   pub record IsPublishedRight (n : ℕ) (h : List (Event K A)) : Type 0 where
     pub answers : IsCorrect cmp r (replay cmp n h).published
     pub cycles :
@@ -40,13 +41,14 @@ module _ {K A : Type 0} (cmp : K → K → Ordering) (r : Meaning K A) where
     pub forward : IsForward event
     pub legal : Legal cmp r n (h ++ event ∷ [])
 
-  -- current needs are what keys depend on, claims are apart from each other and from what is published,
-  -- following current needs never comes back to a key, and where something is claimed or awaited there is a
-  -- way on
+  -- current needs are what keys depend on, claims are apart from each other and from what is
+  -- published, following current needs never comes back to a key, and where something is claimed or
+  -- awaited there is a way on
   pub record LeadsDown (n : ℕ) (h : List (Event K A)) : Type 0 where
     pub depends : (x y : K) → Needs cmp (replay cmp n h).callers x y → Depends cmp r x y
     pub distinct : AreDistinct (claimed (replay cmp n h).callers)
-    pub unpublished : (k : K) → IsIn k (claimed (replay cmp n h).callers) → get cmp (replay cmp n h).published k ≡ None
+    pub unpublished : (k : K) → IsIn k (claimed (replay cmp n h).callers)
+        → get cmp (replay cmp n h).published k ≡ None
     pub no_way_back : (k : K) → ¬ Leads (Needs cmp (replay cmp n h).callers) k k
     pub way_on : ¬ AreIdle (replay cmp n h).callers → HasWayOn n h
 
@@ -87,7 +89,8 @@ module _ {K A : Type 0} (cmp : K → K → Ordering) (r : Meaning K A) where
   abbrev pub IsUnder : List K → K → Type 0
   IsUnder keys k = (x : K) × IsIn x keys × Reaches (Depends cmp r) x k
 
-  -- the closure of the keys as a list, and all pairs of a key of it and one that this key depends on
+  -- the closure of the keys as a list, and all pairs of a key of it and one that this key depends
+  -- on
   pub record IsClosure (from : List K) (keys : List K) (edges : List (K × K)) : Type 0 where
     pub distinct : AreDistinct keys
     pub lies : (k : K) → IsIn k keys ↔ IsUnder from k
@@ -107,34 +110,40 @@ module _ {K A : Type 0} (cmp : K → K → Ordering) (r : Meaning K A) where
   publishes (Publish c a) = true
   publishes _ = false
 
-  -- no key is published twice, and none that lies outside the closure of the keys asked on an empty chain;
-  -- where no work is left and these are published, the whole closure is; without Abandons the history is
-  -- bounded by the closure, and where no work is left each key asked on an empty chain is published
+  -- no key is published twice, and none that lies outside the closure of the keys asked on an empty
+  -- chain; where no work is left and these are published, the whole closure is; without Abandons
+  -- the history is bounded by the closure, and where no work is left each key asked on an empty
+  -- chain is published
   pub record IsWorkedOnce (n : ℕ) (h : List (Event K A)) : Type 0 where
     pub once : AreDistinct (map (λ (p : K × A). p.0) (replay cmp n h).published)
     pub counted : length (filter publishes h) ≡ length (replay cmp n h).published
-    pub within : (k : K) → IsSome (get cmp (replay cmp n h).published k) → IsUnder (keys_of (roots n h)) k
+    pub within : (k : K) → IsSome (get cmp (replay cmp n h).published k)
+        → IsUnder (keys_of (roots n h)) k
     pub whole :
         AreIdle (replay cmp n h).callers → ArePublished (replay cmp n h) (keys_of (roots n h))
         → (k : K) → IsUnder (keys_of (roots n h)) k → IsSome (get cmp (replay cmp n h).published k)
-    pub finite : (keys : List K) × (edges : List (K × K)) × IsClosure (keys_of (roots n h)) keys edges
+    pub finite : (keys : List K) × (edges : List (K × K))
+        × IsClosure (keys_of (roots n h)) keys edges
     pub bounded :
-        HasNoAbandon h → (keys : List K) (edges : List (K × K)) → IsClosure (keys_of (roots n h)) keys edges
+        HasNoAbandon h → (keys : List K) (edges : List (K × K))
+        → IsClosure (keys_of (roots n h)) keys edges
         → length h ≤ length keys + 2 * (length edges + length (roots n h))
     pub ended :
-        HasNoAbandon h → AreIdle (replay cmp n h).callers → ArePublished (replay cmp n h) (keys_of (roots n h))
+        HasNoAbandon h → AreIdle (replay cmp n h).callers
+        → ArePublished (replay cmp n h) (keys_of (roots n h))
 
   abbrev pub WorkedOnce : Type 0
   WorkedOnce = (n : ℕ) (h : List (Event K A)) → Legal cmp r n h → IsWorkedOnce n h
 
-  -- each key that a caller asked lies in the closure of the keys asked on an empty chain; where no work is
-  -- left it is published, if those are or nobody abandoned
+  -- each key that a caller asked lies in the closure of the keys asked on an empty chain; where no
+  -- work is left it is published, if those are or nobody abandoned
   pub record IsAskedUnder (n : ℕ) (h : List (Event K A)) : Type 0 where
     pub under : (k : K) → IsIn k (keys_of (asks h)) → IsUnder (keys_of (roots n h)) k
     pub published :
         AreIdle (replay cmp n h).callers → ArePublished (replay cmp n h) (keys_of (roots n h))
         → ArePublished (replay cmp n h) (keys_of (asks h))
-    pub ended : HasNoAbandon h → AreIdle (replay cmp n h).callers → ArePublished (replay cmp n h) (keys_of (asks h))
+    pub ended : HasNoAbandon h → AreIdle (replay cmp n h).callers
+        → ArePublished (replay cmp n h) (keys_of (asks h))
 
   abbrev pub AskedUnder : Type 0
   AskedUnder = (n : ℕ) (h : List (Event K A)) → Legal cmp r n h → IsAskedUnder n h
@@ -148,16 +157,18 @@ module _ {K A : Type 0} (cmp : K → K → Ordering) (r : Meaning K A) where
   IsNoLook (Look c) = ⊥
   IsNoLook _ = Unit {0}
 
-  -- what is legal for the caller after h, and is no Look, is legal after the longer history, in which the
-  -- caller has done no more; and its chain and what it waits for are the same in both
+  -- what is legal for the caller after h, and is no Look, is legal after the longer history, in
+  -- which the caller has done no more; and its chain and what it waits for are the same in both
   pub record IsUnmoved (n : ℕ) (h further : List (Event K A)) (c : ℕ) : Type 0 where
     pub legal :
         (e : Event K A) → caller_of e ≡ c → IsNoLook e
         → Legal cmp r n (h ++ e ∷ []) → Legal cmp r n ((h ++ further) ++ e ∷ [])
-    pub same : caller_at (replay cmp n (h ++ further)).callers c ≡ caller_at (replay cmp n h).callers c
+    pub same : caller_at (replay cmp n (h ++ further)).callers c
+        ≡ caller_at (replay cmp n h).callers c
 
   abbrev pub UnmovedByOthers : Type 0
   UnmovedByOthers =
       (n : ℕ) (h further : List (Event K A)) (c : ℕ)
-      → 1 ≤ c → Legal cmp r n h → Legal cmp r n (h ++ further) → events_of c (h ++ further) ≡ events_of c h
+      → 1 ≤ c → Legal cmp r n h → Legal cmp r n (h ++ further)
+      → events_of c (h ++ further) ≡ events_of c h
       → IsUnmoved n h further c

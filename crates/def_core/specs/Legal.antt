@@ -1,4 +1,5 @@
--- Legal histories: each caller asks what its last key needs, and publishes what its last key's body gives.
+-- Legal histories: each caller asks what its last key needs, and publishes what its last key's body
+-- gives.
 use Rattle.std.specs.Prelude.{◌≡◌, ◌≢◌, ℕ, ◌==◌, List, [], ◌∷◌, ◌++◌, filter, Option, Some, None, IsSome}
 use Rattle.std.specs.List.{AllByRecursion}
 use Rattle.std.specs.declared.cmp.Ordering.{Ordering}
@@ -19,7 +20,8 @@ module _ {K A : Type 0} (cmp : K → K → Ordering) (r : Meaning K A) where
   abbrev pub steps_of : ℕ → List (Event K A) → ℕ → List (Event K A × Outcome (List K))
   steps_of n h c = filter (λ s. caller_of s.0 == c) (steps cmp n h)
 
-  -- the pair that an event told: the asked key with the answer that tells the cycle that the Ask came to
+  -- the pair that an event told: the asked key with the answer that tells the cycle that the Ask
+  -- came to
   abbrev pub pair_of : Event K A → Outcome (List K) → List (K × A)
   pair_of (Ask c k) (Circle y) = (k, r.circular y) ∷ []
   pair_of _ _ = []
@@ -50,7 +52,8 @@ module _ {K A : Type 0} (cmp : K → K → Ordering) (r : Meaning K A) where
   pub record IsNext (n : ℕ) (h : List (Event K A)) (c : ℕ) (t k : K) : Type 0 where
     pub depends : Depends cmp r t k
     -- every earlier need of t is published
-    pub earlier : AllByRecursion (λ p. IsSome (get cmp (replay cmp n h).published p.0)) depends.earlier
+    pub earlier : AllByRecursion
+        (λ p. IsSome (get cmp (replay cmp n h).published p.0)) depends.earlier
     pub once : ¬ HasAsked n h c t k
     pub untold : told n h c ≡ []
 
@@ -64,7 +67,8 @@ module _ {K A : Type 0} (cmp : K → K → Ordering) (r : Meaning K A) where
   MayPublish n h c a None = ⊥
   MayPublish n h c a (Some t) = r.body t (told n h c ++ (replay cmp n h).published) ≡ Done a
 
-  -- what is asked of the event beside that it fits; a Look that finds its key still claimed is no event
+  -- what is asked of the event beside that it fits; a Look that finds its key still claimed is no
+  -- event
   abbrev pub MayBe : ℕ → List (Event K A) → Event K A → Type 0
   MayBe n h (Ask c k) = MayAsk n h c k (top n h c)
   MayBe n h (Publish c a) = MayPublish n h c a (top n h c)

@@ -30,18 +30,19 @@ module _ {K : Type 0} (cmp : K → K → Ordering) where
   behind [] k = None
   behind (x ∷ xs) k = cond (eq_by_cmp cmp k x) (first xs) (behind xs k)
 
-  -- the current need of a claimed key: the next key of its chain, and of a chain's last key what its caller
-  -- waits for
+  -- the current need of a claimed key: the next key of its chain, and of a chain's last key what
+  -- its caller waits for
   abbrev pub need : List (Caller K) → K → Option K
   need [] k = None
-  need (c ∷ callers) k = cond (is_in k c.chain) (behind (c.chain ++ option_to_list c.awaits) k) (need callers k)
+  need (c ∷ callers) k =
+      cond (is_in k c.chain) (behind (c.chain ++ option_to_list c.awaits) k) (need callers k)
 
   -- y is the current need of x
   abbrev pub Needs : List (Caller K) → K → K → Type 0
   Needs callers x y = need callers x ≡ Some y
 
-  -- the keys from k on, each the current need of the one before it, up to the first that is t; there is no
-  -- such path where t is not among the first n of them
+  -- the keys from k on, each the current need of the one before it, up to the first that is t;
+  -- there is no such path where t is not among the first n of them
   abbrev pub path : List (Caller K) → ℕ → K → K → Option (List K)
   path callers zero k t = None
   path callers (suc n) k t =
@@ -67,13 +68,16 @@ module _ {K : Type 0} (cmp : K → K → Ordering) where
   rotated [] = []
   rotated (x ∷ xs) = list_from (least x xs) (x ∷ xs) ++ list_before (least x xs) (x ∷ xs)
 
-  -- the cycle that would close if the last key of the caller's chain needed k: the path of current needs from
-  -- k to that key, rotated. A path that meets no key twice has at most as many keys as are claimed
+  -- the cycle that would close if the last key of the caller's chain needed k: the path of current
+  -- needs from k to that key, rotated. A path that meets no key twice has at most as many keys as
+  -- are claimed
   abbrev pub closing : List (Caller K) → ℕ → K → Option (List K)
   closing callers c k =
       option_map rotated
-      (option_and_then (λ t. path callers (length (claimed callers)) k t) (last (caller_at callers c).chain))
+      (option_and_then (λ t. path callers (length (claimed callers)) k t)
+      (last (caller_at callers c).chain))
 
   -- following current needs from k reaches the last key of the caller's chain
   abbrev pub Closes : List (Caller K) → ℕ → K → Type 0
-  Closes callers c k = (t : K) × (last (caller_at callers c).chain ≡ Some t) × Reaches (Needs callers) k t
+  Closes callers c k =
+      (t : K) × (last (caller_at callers c).chain ≡ Some t) × Reaches (Needs callers) k t

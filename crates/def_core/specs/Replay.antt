@@ -16,7 +16,8 @@ caller_of (Publish c a) = c
 caller_of (Look c) = c
 caller_of (Abandon c) = c
 
--- what an Ask comes to, by the answer of its key, the key's owner, and the cycle that waiting would close
+-- what an Ask comes to, by the answer of its key, the key's owner, and the cycle that waiting would
+-- close
 abbrev pub asked : {A C : Type 0} → Option A → Option ℕ → Option C → Outcome C
 asked (Some a) owner cycle = Known
 asked None None cycle = Yours
@@ -49,7 +50,8 @@ module _ {K A : Type 0} (cmp : K → K → Ordering) where
 
   -- what the event comes to
   abbrev pub outcome : State K A → Event K A → Outcome (List K)
-  outcome s (Ask c k) = asked (get cmp s.published k) (owner cmp s.callers k) (closing cmp s.callers c k)
+  outcome s (Ask c k) =
+      asked (get cmp s.published k) (owner cmp s.callers k) (closing cmp s.callers c k)
   outcome s (Publish c a) = Published
   outcome s (Look c) = look s (caller_at s.callers c).awaits
   outcome s (Abandon c) = Abandoned
@@ -79,7 +81,8 @@ module _ {K A : Type 0} (cmp : K → K → Ordering) where
   }
   after s (Look c) = record {
     published = s.published;
-    callers = with_caller s.callers c (after_look s (caller_at s.callers c) (caller_at s.callers c).awaits);
+    callers = with_caller s.callers c
+        (after_look s (caller_at s.callers c) (caller_at s.callers c).awaits);
   }
   after s (Abandon c) = record { published = s.published; callers = with_caller s.callers c idle }
 

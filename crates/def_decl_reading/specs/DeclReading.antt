@@ -13,7 +13,8 @@ use Rattle.def_decl_reading.specs.MemberReading.{access_form, alias_form, params
 -- an import behind its word
 abbrev pub import_form : Option Token → Token → Form ImportTree
 import_form exported word =
-    name (λ name. sign ";" (λ semicolon. Made (record { exported = exported; word = word; name = name })))
+    name (λ name. sign ";" (λ semicolon.
+    Made (record { exported = exported; word = word; name = name })))
 
 -- a constant behind the word `static`
 abbrev pub const_form : Nesting → Option AccessTree → Token → Form ConstTree
@@ -90,7 +91,8 @@ binding_form around first =
     Made (record { opening = first; number = number; set = set }))))))))))
 
 -- a buffer behind the word of its kind
-abbrev pub kind_form : Nesting → Option BindingTree → Option AccessTree → BufferKind → Token → Form BufferTree
+abbrev pub kind_form : Nesting → Option BindingTree → Option AccessTree → BufferKind → Token
+    → Form BufferTree
 kind_form around binding access kind word =
     sign "<" (λ opening.
     Then (AType around) (λ element.
@@ -107,10 +109,12 @@ kind_form around binding access kind word =
     }))))))
 
 -- a buffer behind its access, or what else stands there
-abbrev pub buffer_form : Nesting → Option BindingTree → Option AccessTree → Form DeclTree → Form DeclTree
+abbrev pub buffer_form : Nesting → Option BindingTree → Option AccessTree → Form DeclTree
+    → Form DeclTree
 buffer_form around binding access other =
     when "StructuredBuffer" (λ word. As tree.Buffer (kind_form around binding access ReadOnly word))
-    (when "RWStructuredBuffer" (λ word. As tree.Buffer (kind_form around binding access ReadWrite word)) other)
+    (when "RWStructuredBuffer"
+    (λ word. As tree.Buffer (kind_form around binding access ReadWrite word)) other)
 
 -- an attribute behind its first bracket, inside it
 abbrev pub attr_form : Nesting → Token → Form AttrTree
@@ -189,7 +193,8 @@ decl_form around =
 
 -- the name of a module with its word, if it is written
 abbrev pub header_form : Form (Option Token)
-header_form = when "module" (λ word. name (λ name. sign ";" (λ semicolon. Made (Some name)))) (Made None)
+header_form =
+    when "module" (λ word. name (λ name. sign ";" (λ semicolon. Made (Some name)))) (Made None)
 
 -- a module up to the end
 abbrev pub module_form : Form ModuleTree

@@ -1,7 +1,7 @@
 -- Forms: what stands behind what in tokens, the tree that it is, and how it is read.
 --
--- A form goes on by the next token alone, so that what is read never has to be read again in another way. What it
--- begins with is taken before a choice is made.
+-- A form goes on by the next token alone, so that what is read never has to be read again in
+-- another way. What it begins with is taken before a choice is made.
 use Rattle.std.specs.Prelude.{ℕ, zero, suc, Bool, true, false, not, List, [], ◌∷◌, length, Option, Some, None}
 use Prim.Native.String.{String}
 use Rattle.def_token.specs.Lexical.{Token}
@@ -62,14 +62,13 @@ is_front ANarrow = narrows
 is_front AText = texts
 is_front (ASign sign) = is_sign sign
 
--- A form by what it consists of, with its tree:
---   nothing, with a tree that is known;
---   nothing that there could be;
---   a token that opens what its entry says, and what stands behind it, or else, without such a token, another form;
---   a form and one behind it that hangs on its tree; and a form of whose tree another is made;
---   forms with a comma between them; forms that each begin with a token of one kind, as many as there are; and forms up
---   to a token that passes a test, which is no part of them;
---   a type, an expression, and statements with the brace behind them, inside what is open.
+-- A form by what it consists of, with its tree: nothing, with a tree that is known; nothing that
+-- there could be; a token that opens what its entry says, and what stands behind it, or else,
+-- without such a token, another form; a form and one behind it that hangs on its tree; and a form
+-- of whose tree another is made; forms with a comma between them; forms that each begin with a
+-- token of one kind, as many as there are; and forms up to a token that passes a test, which is no
+-- part of them; a type, an expression, and statements with the brace behind them, inside what is
+-- open.
 pub data Form : Type 0 → Type 1 where
   Made : {A : Type 0} → A → Form A
   Never : {A : Type 0} → Form A
@@ -129,12 +128,14 @@ abbrev pub with_first : {A : Type 0} → A → List A → List A
 with_first first more = first ∷ more
 
 -- forms, each behind a token that passes a test, in at most so many turns
-abbrev pub many_in : {A : Type 0} → (Symbol → Bool) → Entry → (Token → Reader A) → ℕ → Reader (List A)
+abbrev pub many_in : {A : Type 0} → (Symbol → Bool) → Entry → (Token → Reader A) → ℕ
+    → Reader (List A)
 many_in test entry form zero reach place = refused reach place
 many_in test entry form (suc turns) reach place =
     choice test entry
     (λ token reach place.
-    try_then (λ first reach place. try_as (with_first first) (many_in test entry form turns reach place))
+    try_then (λ first reach place.
+    try_as (with_first first) (many_in test entry form turns reach place))
     (form token reach place))
     (λ reach place. Reads [] place reach)
     reach place
@@ -150,7 +151,8 @@ until_in test form zero reach place = refused reach place
 until_in test form (suc turns) reach place =
     unless_by (begins test (ahead place))
     (λ reach place.
-    try_then (λ first reach place. try_as (with_first first) (until_in test form turns reach place)) (form reach place))
+    try_then (λ first reach place. try_as (with_first first) (until_in test form turns reach place))
+    (form reach place))
     reach place
 
 -- how a form is read
@@ -161,10 +163,13 @@ reads (Branch front entry yes' no') reach place =
     choice (is_front front) entry (λ token. reads (yes' token)) (reads no') reach place
 reads (Then form next) reach place = try_then (λ a. reads (next a)) (reads form reach place)
 reads (As make form) reach place = try_as make (reads form reach place)
-reads (Listed form) reach place = listed with_first [] (reads form) (suc (length (ahead place))) reach place
+reads (Listed form) reach place =
+    listed with_first [] (reads form) (suc (length (ahead place))) reach place
 reads (Many front entry form) reach place =
-    many_in (is_front front) entry (λ token. reads (form token)) (suc (length (ahead place))) reach place
-reads (Until test form) reach place = until_in test (reads form) (suc (length (ahead place))) reach place
+    many_in (is_front front) entry (λ token. reads (form token))
+    (suc (length (ahead place))) reach place
+reads (Until test form) reach place =
+    until_in test (reads form) (suc (length (ahead place))) reach place
 reads (AType around) reach place = type_in around reach place
 reads (AnExpr around) reach place = expr_in false around reach place
 reads (Stmts around) reach place =

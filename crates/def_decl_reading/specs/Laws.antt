@@ -8,13 +8,15 @@ use Rattle.def_module.specs.Module.{IsModule}
 use Rattle.def_reading.specs.TypeReading.{Ended, Reading}
 use Rattle.def_decl_reading.specs.DeclReading.{module_of}
 
--- What is read is the module that the tokens are, within the limits; else it stops where the tokens have their fault.
+-- What is read is the module that the tokens are, within the limits; else it stops where the tokens
+-- have their fault.
 abbrev pub IsExactModule : List Token → Reading ModuleTree → Type 0
 IsExactModule tokens (Ok found) = IsRead IsModule module_entries tokens found.0 found.1
-IsExactModule tokens (Err stop) = HasFault IsModule module_entries tokens (fault_at stop.code stop.token)
+IsExactModule tokens (Err stop) =
+    HasFault IsModule module_entries tokens (fault_at stop.code stop.token)
 
--- What is read is a module within the limits. Where tokens are a module, whatever the limits, what is read is exact:
--- the module, or what is told at the first limit.
+-- What is read is a module within the limits. Where tokens are a module, whatever the limits, what
+-- is read is exact: the module, or what is told at the first limit.
 pub record ModulesAreRead : Type 0 where
   pub only : (tokens : List Token) (tree : ModuleTree) (rest : List Token)
       → module_of tokens ≡ Ok (tree, rest) → IsRead IsModule module_entries tokens tree rest

@@ -1,5 +1,5 @@
--- How the parts of declarations are read, and what stands in structs, interfaces and extensions. The comment of a form
--- is what it stands for; that of Declarations.antt has its production.
+-- How the parts of declarations are read, and what stands in structs, interfaces and extensions.
+-- The comment of a form is what it stands for; that of Declarations.antt has its production.
 use Rattle.std.specs.Prelude.{List, [], ◌∷◌, Option, Some, None}
 use Rattle.def_token.specs.Lexical.{Token}
 use Rattle.def_tree.specs.Limits.{Nesting, plain, opens, in_bracket, in_block}
@@ -23,7 +23,8 @@ abbrev pub alias_form : Nesting → Option AccessTree → Token → Form AliasTr
 alias_form around access word =
     name (λ name.
     sign "=" (λ equals.
-    As (λ type. record { access = access; word = word; name = name; type = type }) (closed ";" (AType around))))
+    As (λ type. record { access = access; word = word; name = name; type = type })
+    (closed ";" (AType around))))
 
 -- a type behind its mark, if there is one
 abbrev pub maybe_type_form : Nesting → Form (Option TypeTree)
@@ -71,7 +72,8 @@ arg_form around =
     Then mode_form (λ mode.
     Then (AType around) (λ type.
     name (λ name.
-    As (λ semantic. record { mode = mode; type = type; name = name; semantic = semantic }) semantic_form)))
+    As (λ semantic. record { mode = mode; type = type; name = name; semantic = semantic })
+    semantic_form)))
 
 -- parameters, if there are any, and the closing bracket
 abbrev pub args_form : Nesting → Form (List ArgTree)
@@ -81,17 +83,20 @@ args_form around = when ")" (λ closing. Made []) (closed ")" (Listed (arg_form 
 abbrev pub block_form : Nesting → Form BlockTree
 block_form around =
     let inside = in_block around in
-    opening "{" inside.blocks (λ opening. As (λ stmts. record { opening = opening; stmts = stmts }) (Stmts inside))
+    opening "{" inside.blocks
+    (λ opening. As (λ stmts. record { opening = opening; stmts = stmts }) (Stmts inside))
 
 -- the names of fields, behind the first
 abbrev pub names_form : Token → Form (List Token)
 names_form first =
-    when "," (λ comma. As (with_first first) (Listed (name (λ name. Made name)))) (Made (first ∷ []))
+    when "," (λ comma. As (with_first first) (Listed (name (λ name. Made name))))
+    (Made (first ∷ []))
 
 -- fields behind the first name
 abbrev pub field_form : Option AccessTree → TypeTree → Token → Form FieldTree
 field_form access type first =
-    As (λ names. record { access = access; type = type; names = names }) (closed ";" (names_form first))
+    As (λ names. record { access = access; type = type; names = names })
+    (closed ";" (names_form first))
 
 -- the word `mutating` behind its opening bracket
 abbrev pub mutating_form : Form Token
@@ -100,7 +105,8 @@ mutating_form = sign "mutating" (λ word. sign "]" (λ closing. Made word))
 -- the tail of a method behind the bracket of its parameters
 abbrev pub called_form : Nesting → Option Token → TypeTree → Token → Form TailTree
 called_form around static type name =
-    As (λ args. record { static = static; type = type; name = name; args = args }) (args_form (in_bracket around))
+    As (λ args. record { static = static; type = type; name = name; args = args })
+    (args_form (in_bracket around))
 
 -- the tail of a method behind the word `static`
 abbrev pub typed_form : Nesting → Option Token → Form TailTree
@@ -129,12 +135,14 @@ method_form around mutating access override tail =
 -- a method behind its access
 abbrev pub override_form : Nesting → Option Token → Option AccessTree → Form MethodTree
 override_form around mutating access =
-    Then (maybe "override") (λ override. method_form around mutating access override (tail_form around))
+    Then (maybe "override") (λ override.
+    method_form around mutating access override (tail_form around))
 
 -- a method behind the bracket before `mutating`
 abbrev pub mutating_method : Nesting → Form MethodTree
 mutating_method around =
-    Then mutating_form (λ word. Then access_form (λ access. override_form around (Some word) access))
+    Then mutating_form (λ word.
+    Then access_form (λ access. override_form around (Some word) access))
 
 -- fields, or a method, that begin with a type
 abbrev pub typed_member : Nesting → Option AccessTree → Form MemberTree
@@ -149,14 +157,17 @@ typed_member around access =
 abbrev pub accessed_member : Nesting → Option AccessTree → Form MemberTree
 accessed_member around access =
     when "typealias" (λ word. As MemberAlias (alias_form around access word))
-    (when "override" (λ word. As Method (method_form around None access (Some word) (tail_form around)))
-    (when "static" (λ word. As Method (method_form around None access None (typed_form around (Some word))))
+    (when "override" (λ word.
+    As Method (method_form around None access (Some word) (tail_form around)))
+    (when "static" (λ word. As Method
+    (method_form around None access None (typed_form around (Some word))))
     (typed_member around access)))
 
 -- fields, a method, or an alias
 abbrev pub member_form : Nesting → Form MemberTree
 member_form around =
-    Branch (ASign "[") (opens (in_bracket around).brackets) (λ opening. As Method (mutating_method around))
+    Branch (ASign "[") (opens (in_bracket around).brackets)
+    (λ opening. As Method (mutating_method around))
     (Then access_form (accessed_member around))
 
 -- a method, or an alias, behind the access
@@ -168,13 +179,15 @@ accessed_addition around access =
 -- a method, or an alias
 abbrev pub addition_form : Nesting → Form MemberTree
 addition_form around =
-    Branch (ASign "[") (opens (in_bracket around).brackets) (λ opening. As Method (mutating_method around))
+    Branch (ASign "[") (opens (in_bracket around).brackets)
+    (λ opening. As Method (mutating_method around))
     (Then access_form (accessed_addition around))
 
 -- the word `mutating` in its brackets, if it is written
 abbrev pub maybe_mutating : Nesting → Form (Option Token)
 maybe_mutating around =
-    Branch (ASign "[") (opens (in_bracket around).brackets) (λ opening. As Some mutating_form) (Made None)
+    Branch (ASign "[") (opens (in_bracket around).brackets) (λ opening. As Some mutating_form)
+    (Made None)
 
 -- the head of a requirement
 abbrev pub head_form : Nesting → Form HeadTree
@@ -187,7 +200,8 @@ head_form around =
 abbrev pub assoc_form : Nesting → Token → Form AssocTree
 assoc_form around word =
     name (λ name.
-    As (λ bases. record { word = word; name = name; bases = bases }) (closed ";" (bases_form around)))
+    As (λ bases. record { word = word; name = name; bases = bases })
+    (closed ";" (bases_form around)))
 
 -- what a requirement ends with: its own body, or the semicolon
 abbrev pub ending_form : Nesting → Form (Option BlockTree)
@@ -196,12 +210,14 @@ ending_form around = when ";" (λ semicolon. Made None) (As Some (block_form aro
 -- a requirement
 abbrev pub require_form : Nesting → Form RequireTree
 require_form around =
-    Then (head_form around) (λ head. As (λ body. record { head = head; body = body }) (ending_form around))
+    Then (head_form around) (λ head.
+    As (λ body. record { head = head; body = body }) (ending_form around))
 
 -- a requirement, or an associated type
 abbrev pub item_form : Nesting → Form ItemTree
 item_form around =
-    when "associatedtype" (λ word. As Assoc (assoc_form around word)) (As Require (require_form around))
+    when "associatedtype" (λ word. As Assoc (assoc_form around word))
+    (As Require (require_form around))
 
 -- forms in braces, which are a block, and the semicolon behind them
 abbrev pub body_form : {A : Type 0} → Nesting → (Nesting → Form A) → Form (List A × Option Token)

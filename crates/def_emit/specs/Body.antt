@@ -25,7 +25,8 @@ element_type p b = slice_index_or (map (λ (x : Buffer). x.element) p.buffers) b
 abbrev pub buffer_id : Program → ℕ → Operand Symbol
 buffer_id p b = Id (Of (BufferVariable b (element_type p b)))
 
--- the id of a value: that of a literal's constant, and for a slot the given id, into which it is loaded
+-- the id of a value: that of a literal's constant, and for a slot the given id, into which it is
+-- loaded
 abbrev pub value_id : Value → Symbol → Operand Symbol
 value_id (Literal s n) loaded = Id (Of (Constant s n))
 value_id (Slot t) loaded = Id loaded
@@ -33,7 +34,8 @@ value_id (Slot t) loaded = Id loaded
 -- a slot is loaded where it is used, a literal never
 abbrev pub value_lines : Program → Value → Symbol → List (Line Symbol)
 value_lines p (Literal s n) loaded = []
-value_lines p (Slot t) loaded = line op.load (scalar_id (slot_type p t) ∷ Id loaded ∷ Id (SlotVariable t) ∷ []) ∷ []
+value_lines p (Slot t) loaded =
+    line op.load (scalar_id (slot_type p t) ∷ Id loaded ∷ Id (SlotVariable t) ∷ []) ∷ []
 
 -- component c of the dispatch id into slot t
 abbrev pub id_lines : ℕ → ℕ → ℕ → List (Line Symbol)
@@ -45,8 +47,8 @@ id_lines k t c =
     ∷ line op.store (Id (SlotVariable t) ∷ component ∷ [])
     ∷ []
 
--- The element is written where the index is below the buffer's length. The index is loaded for the test, and
--- once more in the inner block.
+-- The element is written where the index is below the buffer's length. The index is loaded for the
+-- test, and once more in the inner block.
 abbrev pub put_lines : Program → ℕ → ℕ → Value → Value → List (Line Symbol)
 put_lines p k b i v =
     let tested = Result k 0 in
@@ -57,7 +59,8 @@ put_lines p k b i v =
     let index = Result k 5 in
     let value = Result k 6 in
     let element = Id (Result k 7) in
-    let pointer = shape_id (shape.Pointer enumerant.storage_buffer (shape.Number (element_type p b))) in
+    let pointer = shape_id (shape.Pointer enumerant.storage_buffer
+    (shape.Number (element_type p b))) in
     value_lines p i tested
     ++ line op.array_length (scalar_id Uint ∷ length ∷ buffer_id p b ∷ Number 0 ∷ [])
     ∷ line op.unsigned_less_than (shape_id shape.Bit ∷ within ∷ value_id i tested ∷ length ∷ [])
@@ -66,7 +69,8 @@ put_lines p k b i v =
     ∷ line op.label (inner ∷ [])
     ∷ value_lines p i index
     ++ value_lines p v value
-    ++ line op.access_chain (pointer ∷ element ∷ buffer_id p b ∷ Id (Of (Constant Uint 0)) ∷ value_id i index ∷ [])
+    ++ line op.access_chain (pointer ∷ element ∷ buffer_id p b ∷ Id (Of (Constant Uint 0))
+    ∷ value_id i index ∷ [])
     ∷ line op.store (element ∷ value_id v value ∷ [])
     ∷ line op.branch (merge ∷ [])
     ∷ line op.label (merge ∷ [])
@@ -81,4 +85,5 @@ operation_lines p (k, operation.Return) = line op.return [] ∷ []
 -- the variable of a slot
 abbrev pub slot_line : ℕ × Scalar → Line Symbol
 slot_line slot =
-    line op.variable (shape_id (shape.Pointer enumerant.function (shape.Number slot.1)) ∷ Id (SlotVariable slot.0) ∷ Number enumerant.function ∷ [])
+    line op.variable (shape_id (shape.Pointer enumerant.function (shape.Number slot.1))
+    ∷ Id (SlotVariable slot.0) ∷ Number enumerant.function ∷ [])

@@ -32,14 +32,17 @@ variables p = dispatch_ids p ++ map buffer_variable (enumerate_from 0 p.buffers)
 
 -- which input the dispatch id is
 abbrev pub dispatch_decorations : Global → Line Symbol
-dispatch_decorations g = line op.decorate (Id (Of g) ∷ Number enumerant.built_in ∷ Number enumerant.global_invocation_id ∷ [])
+dispatch_decorations g =
+    line op.decorate (Id (Of g) ∷ Number enumerant.built_in ∷ Number enumerant.global_invocation_id
+    ∷ [])
 
 -- the layout of a buffer's block, whose elements lie four bytes apart
 abbrev pub layout_decorations : Scalar → List (Line Symbol)
 layout_decorations element =
     line op.decorate (shape_id (array_of element) ∷ Number enumerant.array_stride ∷ Number 4 ∷ [])
     ∷ line op.decorate (shape_id (block_of element) ∷ Number enumerant.block ∷ [])
-    ∷ line op.member_decorate (shape_id (block_of element) ∷ Number 0 ∷ Number enumerant.offset ∷ Number 0 ∷ [])
+    ∷ line op.member_decorate
+    (shape_id (block_of element) ∷ Number 0 ∷ Number enumerant.offset ∷ Number 0 ∷ [])
     ∷ []
 
 -- where each buffer is bound, and at the first of its element type the layout
@@ -49,13 +52,15 @@ buffer_decorations done (buffer ∷ buffers) =
     let self = Id (Of (buffer_variable buffer)) in
     line op.decorate (self ∷ Number enumerant.descriptor_set ∷ Number buffer.1.set ∷ [])
     ∷ line op.decorate (self ∷ Number enumerant.binding ∷ Number buffer.1.binding ∷ [])
-    ∷ (if list_any (same_scalar buffer.1.element) done then [] else layout_decorations buffer.1.element)
+    ∷ (if list_any (same_scalar buffer.1.element) done then []
+    else layout_decorations buffer.1.element)
     ++ buffer_decorations (buffer.1.element ∷ done) buffers
 
 -- the entry point's function
 abbrev pub function_lines : Program → List (Line Symbol)
 function_lines p =
-    line op.function (shape_id shape.Void ∷ Id Entry ∷ Number enumerant.none ∷ shape_id (shape.Function shape.Void) ∷ [])
+    line op.function (shape_id shape.Void ∷ Id Entry ∷ Number enumerant.none
+    ∷ shape_id (shape.Function shape.Void) ∷ [])
     ∷ line op.label (Id Start ∷ [])
     ∷ map slot_line (enumerate_from 0 p.slots)
     ++ flat_map (operation_lines p) (enumerate_from 0 p.operations)
@@ -69,11 +74,19 @@ buffer_name buffer = line op.name (Id (Of (buffer_variable buffer)) ∷ Text buf
 abbrev pub sections : Program → Sections Symbol
 sections p = record {
   capabilities = line op.capability (Number enumerant.shader ∷ []) ∷ [];
-  memory_model = line op.memory_model (Number enumerant.logical ∷ Number enumerant.glsl450 ∷ []) ∷ [];
-  entry_points = line op.entry_point (Number enumerant.gl_compute ∷ Id Entry ∷ Text p.entry ∷ map (λ g. Id (Of g)) (variables p)) ∷ [];
-  execution_modes = line op.execution_mode (Id Entry ∷ Number enumerant.local_size ∷ Number p.threads.0 ∷ Number p.threads.1 ∷ Number p.threads.2 ∷ []) ∷ [];
-  names = line op.name (Id Entry ∷ Text p.entry ∷ []) ∷ map buffer_name (enumerate_from 0 p.buffers);
-  decorations = map dispatch_decorations (dispatch_ids p) ++ buffer_decorations [] (enumerate_from 0 p.buffers);
+  memory_model =
+      line op.memory_model (Number enumerant.logical ∷ Number enumerant.glsl450 ∷ []) ∷ [];
+  entry_points =
+      line op.entry_point (Number enumerant.gl_compute ∷ Id Entry ∷ Text p.entry
+      ∷ map (λ g. Id (Of g)) (variables p)) ∷ [];
+  execution_modes =
+      line op.execution_mode (Id Entry ∷ Number enumerant.local_size ∷ Number p.threads.0
+      ∷ Number p.threads.1 ∷ Number p.threads.2 ∷ []) ∷ [];
+  names = line op.name (Id Entry ∷ Text p.entry ∷ [])
+      ∷ map buffer_name (enumerate_from 0 p.buffers);
+  decorations =
+      map dispatch_decorations (dispatch_ids p)
+      ++ buffer_decorations [] (enumerate_from 0 p.buffers);
   globals = map global_line (needed (variables p) (function_lines p));
   functions = function_lines p;
 }

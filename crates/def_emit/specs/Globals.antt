@@ -48,7 +48,8 @@ abbrev pub global_parts : Global → List Global
 global_parts (TypeOf t) = map TypeOf (shape_parts t)
 global_parts (Constant s n) = TypeOf (shape.Number s) ∷ Constant s n ∷ []
 global_parts DispatchId = map TypeOf (shape_parts dispatch_pointer) ++ DispatchId ∷ []
-global_parts (BufferVariable n element) = map TypeOf (shape_parts (block_pointer element)) ++ BufferVariable n element ∷ []
+global_parts (BufferVariable n element) =
+    map TypeOf (shape_parts (block_pointer element)) ++ BufferVariable n element ∷ []
 
 -- the globals among ids
 abbrev pub symbol_globals : Symbol → List Global
@@ -58,11 +59,12 @@ symbol_globals Start = []
 symbol_globals (SlotVariable n) = []
 symbol_globals (Result k r) = []
 
--- the globals that a module needs: those that are there from the start, then those that its functions mention,
--- each once, where it is first needed, behind its parts
+-- the globals that a module needs: those that are there from the start, then those that its
+-- functions mention, each once, where it is first needed, behind its parts
 abbrev pub needed : List Global → List (Line Symbol) → List Global
 needed start functions =
-    firsts same_global (flat_map global_parts (start ++ flat_map symbol_globals (mentions functions)))
+    firsts same_global (flat_map global_parts
+    (start ++ flat_map symbol_globals (mentions functions)))
 
 -- the signedness of an integer type: 1 for signed
 abbrev pub sign_of : Scalar → ℕ
@@ -74,7 +76,8 @@ abbrev pub shape_line : Operand Symbol → Shape → Line Symbol
 shape_line self shape.Void = line op.type_void (self ∷ [])
 shape_line self shape.Bit = line op.type_bool (self ∷ [])
 shape_line self (shape.Number s) = line op.type_int (self ∷ Number 32 ∷ Number (sign_of s) ∷ [])
-shape_line self shape.Uint3 = line op.type_vector (self ∷ shape_id (shape.Number Uint) ∷ Number 3 ∷ [])
+shape_line self shape.Uint3 =
+    line op.type_vector (self ∷ shape_id (shape.Number Uint) ∷ Number 3 ∷ [])
 shape_line self (shape.Pointer c t) = line op.type_pointer (self ∷ Number c ∷ shape_id t ∷ [])
 shape_line self (shape.RuntimeArray t) = line op.type_runtime_array (self ∷ shape_id t ∷ [])
 shape_line self (shape.Block t) = line op.type_struct (self ∷ shape_id t ∷ [])
@@ -88,4 +91,5 @@ global_line (Constant s n) =
 global_line DispatchId =
     line op.variable (shape_id dispatch_pointer ∷ Id (Of DispatchId) ∷ Number enumerant.input ∷ [])
 global_line (BufferVariable n element) =
-    line op.variable (shape_id (block_pointer element) ∷ Id (Of (BufferVariable n element)) ∷ Number enumerant.storage_buffer ∷ [])
+    line op.variable (shape_id (block_pointer element) ∷ Id (Of (BufferVariable n element))
+    ∷ Number enumerant.storage_buffer ∷ [])

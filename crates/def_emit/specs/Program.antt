@@ -11,7 +11,8 @@ pub data Value : Type 0 where
   Literal : Scalar → ℕ → Value
   Slot : ℕ → Value
 
--- `Id t c` puts component c of the dispatch id into slot t. `BufferPut b i v` puts v into element i of buffer b.
+-- `Id t c` puts component c of the dispatch id into slot t. `BufferPut b i v` puts v into element i
+-- of buffer b.
 pub data Operation : Type 0 where
   Id : ℕ → ℕ → Operation
   BufferPut : ℕ → Value → Value → Operation
@@ -24,7 +25,8 @@ pub record Buffer : Type 0 where
   pub binding : ℕ
   pub element : Scalar
 
--- one entry point: its name, the threads of a group, the buffers in binding order, the types of its slots, its operations
+-- one entry point: its name, the threads of a group, the buffers in binding order, the types of its
+-- slots, its operations
 pub record Program : Type 0 where
   pub entry : List ℕ
   pub threads : ℕ × ℕ × ℕ

@@ -2,7 +2,8 @@
 use Rattle.std.specs.Prelude.{ℕ, Bool, true, false, ◌&&◌, nat_eq}
 use Rattle.def_emit.specs.Program.{Scalar, Int, Uint}
 
--- a type of the module. A block is a struct whose one member is a runtime array; functions take nothing.
+-- a type of the module. A block is a struct whose one member is a runtime array; functions take
+-- nothing.
 pub data Shape : Type 0 where
   Void : Shape
   Bit : Shape
@@ -13,15 +14,16 @@ pub data Shape : Type 0 where
   Block : Shape → Shape
   Function : Shape → Shape
 
--- what stands in the section of types, constants and variables: a type, a constant, the dispatch id, a buffer by its number
+-- what stands in the section of types, constants and variables: a type, a constant, the dispatch
+-- id, a buffer by its number
 pub data Global : Type 0 where
   TypeOf : Shape → Global
   Constant : Scalar → ℕ → Global
   DispatchId : Global
   BufferVariable : ℕ → Scalar → Global
 
--- an id: of the section above, the entry point, the first label of its function, the variable of a slot by
--- the slot's number, or result number r of operation number k
+-- an id: of the section above, the entry point, the first label of its function, the variable of a
+-- slot by the slot's number, or result number r of operation number k
 pub data Symbol : Type 0 where
   Of : Global → Symbol
   Entry : Symbol

@@ -185,7 +185,8 @@ pub record BufferTree : Type 0 where
   pub element : TypeTree
   pub name : Token
 
--- an attribute of a function, with its opening bracket and its word: a stage, or three numbers of threads
+-- an attribute of a function, with its opening bracket and its word: a stage, or three numbers of
+-- threads
 pub data AttrTree : Type 0 where
   Shader : Token → Token → Token → AttrTree
   NumThreads : Token → Token → Token → Token → Token → AttrTree

@@ -1,4 +1,5 @@
--- The grammar of declarations. Parts stand before wholes; the comment of each relation is its production.
+-- The grammar of declarations. Parts stand before wholes; the comment of each relation is its
+-- production.
 use Rattle.std.specs.Prelude.{◌≡◌, List, ◌∷◌, Option, Some, None}
 use Rattle.def_token.specs.Lexical.{Token}
 use Rattle.def_tree.specs.ExprTree.{ExprTree}
@@ -35,10 +36,12 @@ IsAccess tokens access rest = MayBe IsAccessWord tokens access rest
 
 -- Alias = Access "typealias" Name "=" Type ";"
 pub data IsAlias : List Token → AliasTree → List Token → Type 0 where
-  of_alias : {word name equals semicolon : Token} {tokens behind rest : List Token} {access : Option AccessTree}
+  of_alias : {word name equals semicolon : Token} {tokens behind rest : List Token}
+      {access : Option AccessTree}
       {type : TypeTree}
       → IsAccess tokens access (word ∷ name ∷ equals ∷ behind)
-      → Is "typealias" word → IsName name → Is "=" equals → IsType behind type (semicolon ∷ rest) → Is ";" semicolon
+      → Is "typealias" word → IsName name → Is "=" equals → IsType behind type (semicolon ∷ rest)
+      → Is ";" semicolon
       → IsAlias tokens (record { access = access; word = word; name = name; type = type }) rest
 
 -- Const = Access "static" "const" Type Name "=" Expr ";"
@@ -48,7 +51,8 @@ pub data IsConst : List Token → ConstTree → List Token → Type 0 where
       → IsAccess tokens access (word ∷ const ∷ behind)
       → Is "static" word → Is "const" const → IsType behind type (name ∷ equals ∷ after)
       → IsName name → Is "=" equals → IsExpr after value (semicolon ∷ rest) → Is ";" semicolon
-      → IsConst tokens (record { access = access; word = word; type = type; name = name; value = value }) rest
+      → IsConst tokens
+      (record { access = access; word = word; type = type; name = name; value = value }) rest
 
 -- Param = Name [ ":" Type ]
 pub data IsParam : List Token → ParamTree → List Token → Type 0 where
@@ -70,7 +74,8 @@ pub data IsBases : List Token → List TypeTree → List Token → Type 0 where
 
 -- Where = "where" Type ":" Type { "," Type }
 pub data IsWhere : List Token → WhereTree → List Token → Type 0 where
-  of_where : {word : Token} {tokens behind rest : List Token} {type : TypeTree} {bounds : List TypeTree}
+  of_where : {word : Token} {tokens behind rest : List Token} {type : TypeTree}
+      {bounds : List TypeTree}
       → Is "where" word → IsType tokens type behind → IsBases behind bounds rest
       → IsWhere (word ∷ tokens) (record { word = word; type = type; bounds = bounds }) rest
 
@@ -88,7 +93,8 @@ pub data IsSemantic : List Token → Token → List Token → Type 0 where
 
 -- Arg = [ "in" | "inout" ] Type Name [ ":" Name ]
 pub data IsArg : List Token → ArgTree → List Token → Type 0 where
-  of_arg : {name : Token} {tokens behind after rest : List Token} {mode : Option ModeTree} {type : TypeTree}
+  of_arg : {name : Token} {tokens behind after rest : List Token} {mode : Option ModeTree}
+      {type : TypeTree}
       {semantic : Option Token}
       → MayBe IsMode tokens mode behind → IsType behind type (name ∷ after) → IsName name
       → MayBe IsSemantic after semantic rest
@@ -106,7 +112,8 @@ IsBlock tokens block rest = IsStmt tokens (stmt.Block block.opening block.stmts)
 
 -- Field = Access Type Name { "," Name } ";"
 pub data IsField : List Token → FieldTree → List Token → Type 0 where
-  of_field : {semicolon : Token} {tokens behind after rest : List Token} {access : Option AccessTree}
+  of_field : {semicolon : Token} {tokens behind after rest : List Token}
+      {access : Option AccessTree}
       {type : TypeTree} {names : List Token}
       → IsAccess tokens access behind → IsType behind type after
       → AreListed IsNamed after names (semicolon ∷ rest) → Is ";" semicolon
@@ -120,25 +127,31 @@ pub data IsMutating : List Token → Token → List Token → Type 0 where
 
 -- Tail = [ "static" ] Type Name "(" [ Arg { "," Arg } ] ")"
 pub data IsTail : List Token → TailTree → List Token → Type 0 where
-  of_tail : {name : Token} {tokens behind after rest : List Token} {static : Option Token} {type : TypeTree}
+  of_tail : {name : Token} {tokens behind after rest : List Token} {static : Option Token}
+      {type : TypeTree}
       {args : List ArgTree}
-      → MayBe (IsWord "static") tokens static behind → IsType behind type (name ∷ after) → IsName name
+      → MayBe (IsWord "static") tokens static behind → IsType behind type (name ∷ after)
+      → IsName name
       → IsArgs after args rest
       → IsTail tokens (record { static = static; type = type; name = name; args = args }) rest
 
 -- Head = [ "[" "mutating" "]" ] Access Tail
 pub data IsHead : List Token → HeadTree → List Token → Type 0 where
-  of_head : {tokens behind after rest : List Token} {mutating : Option Token} {access : Option AccessTree}
+  of_head : {tokens behind after rest : List Token} {mutating : Option Token}
+      {access : Option AccessTree}
       {tail : TailTree}
-      → MayBe IsMutating tokens mutating behind → IsAccess behind access after → IsTail after tail rest
+      → MayBe IsMutating tokens mutating behind → IsAccess behind access after
+      → IsTail after tail rest
       → IsHead tokens (record { mutating = mutating; access = access; tail = tail }) rest
 
 -- Method = [ "[" "mutating" "]" ] Access [ "override" ] Tail Block
 pub data IsMethod : List Token → MethodTree → List Token → Type 0 where
-  of_method : {tokens second third fourth fifth rest : List Token} {mutating override : Option Token}
+  of_method : {tokens second third fourth fifth rest : List Token}
+      {mutating override : Option Token}
       {access : Option AccessTree} {tail : TailTree} {body : BlockTree}
       → MayBe IsMutating tokens mutating second → IsAccess second access third
-      → MayBe (IsWord "override") third override fourth → IsTail fourth tail fifth → IsBlock fifth body rest
+      → MayBe (IsWord "override") third override fourth → IsTail fourth tail fifth
+      → IsBlock fifth body rest
       → IsMethod tokens (record {
         mutating = mutating;
         access = access;
@@ -186,7 +199,8 @@ pub data IsRequire : List Token → RequireTree → List Token → Type 0 where
 -- Assoc = "associatedtype" Name [ Bases ] ";"
 pub data IsAssoc : List Token → AssocTree → List Token → Type 0 where
   of_assoc : {word name semicolon : Token} {tokens rest : List Token} {bases : List TypeTree}
-      → Is "associatedtype" word → IsName name → MayHave IsBases tokens bases (semicolon ∷ rest) → Is ";" semicolon
+      → Is "associatedtype" word → IsName name → MayHave IsBases tokens bases (semicolon ∷ rest)
+      → Is ";" semicolon
       → IsAssoc (word ∷ name ∷ tokens) (record { word = word; name = name; bases = bases }) rest
 
 -- Require | Assoc
@@ -201,18 +215,23 @@ pub data IsItem : List Token → ItemTree → List Token → Type 0 where
 -- "{" { Form } "}" [ ";" ]
 pub data IsBody {A : Type 0} (IsForm : List Token → A → List Token → Type 0)
     : List Token → List A × Option Token → List Token → Type 0 where
-  of_body : {opening closing : Token} {tokens behind rest : List Token} {forms : List A} {semicolon : Option Token}
+  of_body : {opening closing : Token} {tokens behind rest : List Token} {forms : List A}
+      {semicolon : Option Token}
       → Is "{" opening → AreMany IsForm tokens forms (closing ∷ behind) → Is "}" closing
       → MayBe (IsWord ";") behind semicolon rest
       → IsBody IsForm (opening ∷ tokens) (forms, semicolon) rest
 
--- Struct = Access "struct" Name [ Params ] [ Bases ] { Where } "{" { Field | Method | Alias } "}" [ ";" ]
+-- Struct = Access "struct" Name [ Params ] [ Bases ] { Where } "{" { Field | Method | Alias } "}"
+--     [ ";" ]
 pub data IsStruct : List Token → StructTree → List Token → Type 0 where
-  of_struct : {word name : Token} {tokens second third fourth fifth rest : List Token} {access : Option AccessTree}
-      {params : List ParamTree} {bases : List TypeTree} {wheres : List WhereTree} {members : List MemberTree}
+  of_struct : {word name : Token} {tokens second third fourth fifth rest : List Token}
+      {access : Option AccessTree}
+      {params : List ParamTree} {bases : List TypeTree} {wheres : List WhereTree}
+      {members : List MemberTree}
       {semicolon : Option Token}
       → IsAccess tokens access (word ∷ name ∷ second) → Is "struct" word → IsName name
-      → MayHave IsParams second params third → MayHave IsBases third bases fourth → AreMany IsWhere fourth wheres fifth
+      → MayHave IsParams second params third → MayHave IsBases third bases fourth
+      → AreMany IsWhere fourth wheres fifth
       → IsBody IsMember fifth (members, semicolon) rest
       → IsStruct tokens (record {
         access = access;
@@ -227,7 +246,8 @@ pub data IsStruct : List Token → StructTree → List Token → Type 0 where
 
 -- Interface = Access "interface" Name [ Bases ] "{" { Require | Assoc } "}" [ ";" ]
 pub data IsInterface : List Token → InterfaceTree → List Token → Type 0 where
-  of_interface : {word name : Token} {tokens second third rest : List Token} {access : Option AccessTree}
+  of_interface : {word name : Token} {tokens second third rest : List Token}
+      {access : Option AccessTree}
       {bases : List TypeTree} {items : List ItemTree} {semicolon : Option Token}
       → IsAccess tokens access (word ∷ name ∷ second) → Is "interface" word → IsName name
       → MayHave IsBases second bases third → IsBody IsItem third (items, semicolon) rest
@@ -242,8 +262,10 @@ pub data IsInterface : List Token → InterfaceTree → List Token → Type 0 wh
 
 -- Extension = Access "extension" Type [ Bases ] "{" { Method | Alias } "}" [ ";" ]
 pub data IsExtension : List Token → ExtensionTree → List Token → Type 0 where
-  of_extension : {word : Token} {tokens second third fourth rest : List Token} {access : Option AccessTree}
-      {type : TypeTree} {bases : List TypeTree} {members : List MemberTree} {semicolon : Option Token}
+  of_extension : {word : Token} {tokens second third fourth rest : List Token}
+      {access : Option AccessTree}
+      {type : TypeTree} {bases : List TypeTree} {members : List MemberTree}
+      {semicolon : Option Token}
       → IsAccess tokens access (word ∷ second) → Is "extension" word → IsType second type third
       → MayHave IsBases third bases fourth → IsBody IsAddition fourth (members, semicolon) rest
       → IsExtension tokens (record {
@@ -261,11 +283,14 @@ pub data IsSet : List Token → Token → List Token → Type 0 where
       → Is "," comma → IsNarrow number
       → IsSet (comma ∷ number ∷ rest) number rest
 
--- "[" "[" "vk" "::" "binding" "(" Number [ "," Number ] ")" "]" "]", with numbers of types of 32 bits
+-- "[" "[" "vk" "::" "binding" "(" Number [ "," Number ] ")" "]" "]", with numbers of types of 32
+-- bits
 pub data IsBinding : List Token → BindingTree → List Token → Type 0 where
-  of_binding : {first second vendor colons word opening number closing third fourth : Token} {tokens rest : List Token}
+  of_binding : {first second vendor colons word opening number closing third fourth : Token}
+      {tokens rest : List Token}
       {set : Option Token}
-      → Is "[" first → Is "[" second → Is "vk" vendor → Is "::" colons → Is "binding" word → Is "(" opening
+      → Is "[" first → Is "[" second → Is "vk" vendor → Is "::" colons → Is "binding" word
+      → Is "(" opening
       → IsNarrow number → MayBe IsSet tokens set (closing ∷ third ∷ fourth ∷ rest)
       → Is ")" closing → Is "]" third → Is "]" fourth
       → IsBinding (first ∷ second ∷ vendor ∷ colons ∷ word ∷ opening ∷ number ∷ tokens)
@@ -274,10 +299,12 @@ pub data IsBinding : List Token → BindingTree → List Token → Type 0 where
 -- Buffer = [ "[" "[" "vk" "::" "binding" "(" Number [ "," Number ] ")" "]" "]" ] Access
 --          ( "StructuredBuffer" | "RWStructuredBuffer" ) "<" Type ">" Name ";"
 pub data IsBuffer : List Token → BufferTree → List Token → Type 0 where
-  of_buffer : {kind : BufferKind} {word opening closing name semicolon : Token} {tokens second third rest : List Token}
+  of_buffer : {kind : BufferKind} {word opening closing name semicolon : Token}
+      {tokens second third rest : List Token}
       {binding : Option BindingTree} {access : Option AccessTree} {element : TypeTree}
       → MayBe IsBinding tokens binding second → IsAccess second access (word ∷ opening ∷ third)
-      → Is (buffer_text kind) word → Is "<" opening → IsType third element (closing ∷ name ∷ semicolon ∷ rest)
+      → Is (buffer_text kind) word → Is "<" opening
+      → IsType third element (closing ∷ name ∷ semicolon ∷ rest)
       → Is ">" closing → IsName name → Is ";" semicolon
       → IsBuffer tokens (record {
         binding = binding;
@@ -288,23 +315,29 @@ pub data IsBuffer : List Token → BufferTree → List Token → Type 0 where
         name = name;
       }) rest
 
--- Attr = "[" "shader" "(" String ")" "]" | "[" "numthreads" "(" Number "," Number "," Number ")" "]"
+-- Attr = "[" "shader" "(" String ")" "]"
+--     | "[" "numthreads" "(" Number "," Number "," Number ")" "]"
 pub data IsAttr : List Token → AttrTree → List Token → Type 0 where
   of_shader : {first word opening stage closing last : Token} {rest : List Token}
-      → Is "[" first → Is "shader" word → Is "(" opening → IsText stage → Is ")" closing → Is "]" last
-      → IsAttr (first ∷ word ∷ opening ∷ stage ∷ closing ∷ last ∷ rest) (tree.Shader first word stage) rest
+      → Is "[" first → Is "shader" word → Is "(" opening → IsText stage → Is ")" closing
+      → Is "]" last
+      → IsAttr (first ∷ word ∷ opening ∷ stage ∷ closing ∷ last ∷ rest)
+      (tree.Shader first word stage) rest
   of_threads : {first word opening x comma y mark z closing last : Token} {rest : List Token}
       → Is "[" first → Is "numthreads" word → Is "(" opening
-      → IsNumeral x → Is "," comma → IsNumeral y → Is "," mark → IsNumeral z → Is ")" closing → Is "]" last
+      → IsNumeral x → Is "," comma → IsNumeral y → Is "," mark → IsNumeral z → Is ")" closing
+      → Is "]" last
       → IsAttr (first ∷ word ∷ opening ∷ x ∷ comma ∷ y ∷ mark ∷ z ∷ closing ∷ last ∷ rest)
       (tree.NumThreads first word x y z) rest
 
 -- Function = { Attr } Access Type Name [ Params ] "(" [ Arg { "," Arg } ] ")" { Where } Block
 pub data IsFunction : List Token → FunctionTree → List Token → Type 0 where
   of_function : {name : Token} {tokens second third fourth fifth sixth seventh rest : List Token}
-      {attrs : List AttrTree} {access : Option AccessTree} {type : TypeTree} {params : List ParamTree}
+      {attrs : List AttrTree} {access : Option AccessTree} {type : TypeTree}
+      {params : List ParamTree}
       {args : List ArgTree} {wheres : List WhereTree} {body : BlockTree}
-      → AreMany IsAttr tokens attrs second → IsAccess second access third → IsType third type (name ∷ fourth)
+      → AreMany IsAttr tokens attrs second → IsAccess second access third
+      → IsType third type (name ∷ fourth)
       → IsName name → MayHave IsParams fourth params fifth → IsArgs fifth args sixth
       → AreMany IsWhere sixth wheres seventh → IsBlock seventh body rest
       → IsFunction tokens (record {

@@ -1,8 +1,10 @@
--- The limits of declarations. As for statements, a tree has an entry for each of its tokens, in order.
+-- The limits of declarations. As for statements, a tree has an entry for each of its tokens, in
+-- order.
 --
--- The braces of a struct, an interface and an extension are blocks, as those of a body are; the brackets of attributes
--- and of parameters are brackets. A mark `<` opens nothing: a type is opened by its own first token, so that the types
--- of type parameters and of buffers stand in no other type.
+-- The braces of a struct, an interface and an extension are blocks, as those of a body are; the
+-- brackets of attributes and of parameters are brackets. A mark `<` opens nothing: a type is opened
+-- by its own first token, so that the types of type parameters and of buffers stand in no other
+-- type.
 use Rattle.std.specs.Prelude.{suc, List, [], ◌∷◌, ◌++◌, Option, Some, None}
 use Rattle.std.specs.List.{flat_map}
 use Rattle.def_token.specs.Lexical.{Token}
@@ -23,7 +25,8 @@ maybe_entries entries_of (Some form) = entries_of form
 -- the entries of forms with a comma before each
 abbrev pub more_listed_entries : {A : Type 0} → (A → List Entry) → List A → List Entry
 more_listed_entries entries_of [] = []
-more_listed_entries entries_of (first ∷ more) = plain ∷ (entries_of first ++ more_listed_entries entries_of more)
+more_listed_entries entries_of (first ∷ more) =
+    plain ∷ (entries_of first ++ more_listed_entries entries_of more)
 
 -- the entries of forms with a comma between them
 abbrev pub listed_entries : {A : Type 0} → (A → List Entry) → List A → List Entry
@@ -41,7 +44,8 @@ import_entries import' = word_entries import'.exported ++ plain ∷ plain ∷ pl
 -- the entries of an alias
 abbrev pub alias_entries : Nesting → AliasTree → List Entry
 alias_entries around alias =
-    access_entries alias.access ++ plain ∷ plain ∷ plain ∷ (type_entries around.types alias.type ++ plain ∷ [])
+    access_entries alias.access ++ plain ∷ plain ∷ plain
+    ∷ (type_entries around.types alias.type ++ plain ∷ [])
 
 -- the entries of a constant
 abbrev pub const_entries : Nesting → ConstTree → List Entry
@@ -57,12 +61,14 @@ param_entries around param = plain ∷ maybe_type_entries around param.bound
 -- the entries of type parameters with their marks, if there are any
 abbrev pub params_entries : Nesting → List ParamTree → List Entry
 params_entries around [] = []
-params_entries around (first ∷ more) = plain ∷ (listed_entries (param_entries around) (first ∷ more) ++ plain ∷ [])
+params_entries around (first ∷ more) =
+    plain ∷ (listed_entries (param_entries around) (first ∷ more) ++ plain ∷ [])
 
 -- the entries of bases behind their mark, if there are any
 abbrev pub bases_entries : Nesting → List TypeTree → List Entry
 bases_entries around [] = []
-bases_entries around (first ∷ more) = plain ∷ listed_entries (type_entries around.types) (first ∷ more)
+bases_entries around (first ∷ more) =
+    plain ∷ listed_entries (type_entries around.types) (first ∷ more)
 
 -- the entries of what a type conforms to
 abbrev pub where_entries : Nesting → WhereTree → List Entry
@@ -93,7 +99,8 @@ block_entries around block = stmt_entries around (stmt.Block block.opening block
 abbrev pub field_entries : Nesting → FieldTree → List Entry
 field_entries around field =
     access_entries field.access
-    ++ (type_entries around.types field.type ++ (listed_entries one_entry field.names ++ plain ∷ []))
+    ++ (type_entries around.types field.type
+    ++ (listed_entries one_entry field.names ++ plain ∷ []))
 
 -- the entries of `mutating` in its brackets
 abbrev pub mutating_entries : Nesting → Token → List Entry
@@ -116,7 +123,8 @@ abbrev pub method_entries : Nesting → MethodTree → List Entry
 method_entries around method =
     maybe_entries (mutating_entries around) method.mutating
     ++ (access_entries method.access
-    ++ (word_entries method.override ++ (tail_entries around method.tail ++ block_entries around method.body)))
+    ++ (word_entries method.override
+    ++ (tail_entries around method.tail ++ block_entries around method.body)))
 
 -- the entries of a member
 abbrev pub member_entries : Nesting → MemberTree → List Entry
@@ -131,7 +139,8 @@ ending_entries around (Some body) = block_entries around body
 
 -- the entries of a requirement
 abbrev pub require_entries : Nesting → RequireTree → List Entry
-require_entries around require = head_entries around require.head ++ ending_entries around require.body
+require_entries around require =
+    head_entries around require.head ++ ending_entries around require.body
 
 -- the entries of an associated type
 abbrev pub assoc_entries : Nesting → AssocTree → List Entry
@@ -143,7 +152,8 @@ item_entries around (Require require) = require_entries around require
 item_entries around (Assoc assoc) = assoc_entries around assoc
 
 -- the entries of forms in braces, which are a block, and of the semicolon behind them
-abbrev pub body_entries : {A : Type 0} → (Nesting → A → List Entry) → Nesting → List A → Option Token → List Entry
+abbrev pub body_entries : {A : Type 0} → (Nesting → A → List Entry) → Nesting → List A
+    → Option Token → List Entry
 body_entries entries_of around forms semicolon =
     let inside = in_block around in
     opens inside.blocks ∷ (flat_map (entries_of inside) forms ++ plain ∷ word_entries semicolon)
@@ -182,7 +192,8 @@ binding_entries around binding =
     let first = in_bracket around in
     let second = in_bracket first in
     let third = in_bracket second in
-    opens first.brackets ∷ opens second.brackets ∷ plain ∷ plain ∷ plain ∷ opens third.brackets ∷ plain
+    opens first.brackets ∷ opens second.brackets ∷ plain ∷ plain ∷ plain ∷ opens third.brackets
+    ∷ plain
     ∷ (maybe_entries set_entries binding.set ++ plain ∷ plain ∷ plain ∷ [])
 
 -- the entries of a buffer
@@ -232,4 +243,5 @@ header_entries name = plain ∷ plain ∷ plain ∷ []
 -- the entries of a module, around which nothing is open, and of the end
 abbrev pub module_entries : ModuleTree → List Entry
 module_entries tree =
-    maybe_entries header_entries tree.name ++ (flat_map (decl_entries (all_open 0)) tree.decls ++ plain ∷ [])
+    maybe_entries header_entries tree.name
+    ++ (flat_map (decl_entries (all_open 0)) tree.decls ++ plain ∷ [])

@@ -35,4 +35,5 @@ decl_token (Struct struct) = access_or struct.access struct.word
 decl_token (Interface interface) = access_or interface.access interface.word
 decl_token (Extension extension) = access_or extension.access extension.word
 decl_token (Buffer buffer) = binding_or buffer.binding (access_or buffer.access buffer.word)
-decl_token (Function function) = attrs_or function.attrs (access_or function.access (type_token function.type))
+decl_token (Function function) =
+    attrs_or function.attrs (access_or function.access (type_token function.type))

@@ -20,9 +20,11 @@ EntriesCover =
     (tokens rest : List Token) (tree : ModuleTree)
     → IsModule tokens tree rest → length tokens ≡ length (module_entries tree) + length rest
 
--- How deep a bracket or a block is that opens at a token of a module: it stands in those that the marks of the module
--- before it leave open. A brace behind `=` is one of an initialiser, and opens no block.
-pub record AreCounted (before : List Token) (token : Token) (behind rest : List Token) (tree : ModuleTree) : Type 0 where
+-- How deep a bracket or a block is that opens at a token of a module: it stands in those that the
+-- marks of the module before it leave open. A brace behind `=` is one of an initialiser, and opens
+-- no block.
+pub record AreCounted (before : List Token) (token : Token) (behind rest : List Token)
+    (tree : ModuleTree) : Type 0 where
   pub bracket : IsTrue (opens_bracket token)
       → TellsDepth (module_entries tree) (length before) (suc (open_brackets before))
   pub block : IsTrue (opens_brace token) → ends_with "=" before ≡ false
@@ -39,17 +41,23 @@ DepthsAreCounted =
 abbrev pub FaultsAreDetermined : Type 0
 FaultsAreDetermined = (tokens : List Token) → IsDetermined IsModule module_entries tokens
 
--- what is told of tokens is told of the modules that continue them furthest; of those the one that is refused last
+-- what is told of tokens is told of the modules that continue them furthest; of those the one that
+-- is refused last
 abbrev pub FaultsAreLast : Type 0
-FaultsAreLast = (tokens : List Token) (spot : Spot) → AreRefusedLast IsModule module_entries tokens spot
+FaultsAreLast =
+    (tokens : List Token) (spot : Spot) → AreRefusedLast IsModule module_entries tokens spot
 
 -- a text is one module within the limits at most
 abbrev pub TreesAreUnique : Type 0
-TreesAreUnique = (text : List ℕ) (this other : ModuleTree) → HasTree text this → HasTree text other → this ≡ other
+TreesAreUnique =
+    (text : List ℕ) (this other : ModuleTree) → HasTree text this → HasTree text other
+    → this ≡ other
 
 -- one thing is told of a text at most
 abbrev pub SyntaxIsDetermined : Type 0
-SyntaxIsDetermined = (text : List ℕ) (this other : Answer) → HasSyntax text this → HasSyntax text other → this ≡ other
+SyntaxIsDetermined =
+    (text : List ℕ) (this other : Answer) → HasSyntax text this → HasSyntax text other
+    → this ≡ other
 
 -- which name is declared twice is told of each module
 abbrev pub NamesAreTold : Type 0

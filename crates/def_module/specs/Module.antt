@@ -18,6 +18,7 @@ pub data IsHeader : List Token → Token → List Token → Type 0 where
 
 -- Module = [ "module" Name ";" ] { Decl }, and then the end
 pub data IsModule : List Token → ModuleTree → List Token → Type 0 where
-  of_module : {end : Token} {tokens behind rest : List Token} {name : Option Token} {decls : List DeclTree}
+  of_module : {end : Token} {tokens behind rest : List Token} {name : Option Token}
+      {decls : List DeclTree}
       → MayBe IsHeader tokens name behind → AreMany IsDecl behind decls (end ∷ rest) → IsEnd end
       → IsModule tokens (record { name = name; decls = decls }) rest

@@ -6,7 +6,8 @@ use Rattle.def_tree.specs.Symbol.{Is, IsName}
 
 -- a mark or a keyword
 pub data IsWord (sign : String) : List Token → Token → List Token → Type 0 where
-  of_word : {token : Token} {rest : List Token} → Is sign token → IsWord sign (token ∷ rest) token rest
+  of_word : {token : Token} {rest : List Token} → Is sign token
+      → IsWord sign (token ∷ rest) token rest
 
 -- Name
 pub data IsNamed : List Token → Token → List Token → Type 0 where
@@ -16,7 +17,8 @@ pub data IsNamed : List Token → Token → List Token → Type 0 where
 pub data MayBe {A : Type 0} (IsForm : List Token → A → List Token → Type 0)
     : List Token → Option A → List Token → Type 0 where
   without : {rest : List Token} → MayBe IsForm rest None rest
-  with_one : {tokens rest : List Token} {form : A} → IsForm tokens form rest → MayBe IsForm tokens (Some form) rest
+  with_one : {tokens rest : List Token} {form : A} → IsForm tokens form rest
+      → MayBe IsForm tokens (Some form) rest
 
 -- [ Forms ], for a form that is a list of one or more; without it the list is empty
 pub data MayHave {A : Type 0} (AreForms : List Token → List A → List Token → Type 0)

@@ -1,9 +1,9 @@
 -- The scopes of a module.
 --
--- A scope is what two declarations of one name cannot share: type parameters, parameters, a block, the head of a `for`,
--- each statement behind `if (..)`, `else`, `while (..)` and `for (..)`, what stands in a struct, an interface or an
--- extension, and the module. Scopes are in the order in which they end: one that stands in another comes before it, and
--- the module comes last.
+-- A scope is what two declarations of one name cannot share: type parameters, parameters, a block,
+-- the head of a `for`, each statement behind `if (..)`, `else`, `while (..)` and `for (..)`, what
+-- stands in a struct, an interface or an extension, and the module. Scopes are in the order in
+-- which they end: one that stands in another comes before it, and the module comes last.
 use Rattle.std.specs.Prelude.{Bool, true, false, List, [], ◌∷◌, ◌++◌, map, Option, Some, None}
 use Rattle.std.specs.List.{flat_map}
 use Rattle.def_token.specs.Lexical.{Token}
@@ -30,7 +30,8 @@ single name = record { name = name; overloads = false }
 
 -- what a local declares
 abbrev pub local_names : LocalTree → Scope
-local_names (stmt.Typed word type declarators) = map (λ (declarator : Declarator). single declarator.name) declarators
+local_names (stmt.Typed word type declarators) =
+    map (λ (declarator : Declarator). single declarator.name) declarators
 local_names (stmt.Inferred binding word name type value) = single name ∷ []
 
 -- what the head of a `for` declares

@@ -33,7 +33,8 @@ pub data Answer : Type 0 where
 
 -- First the tokens are a module within the limits, then it declares no name twice.
 pub data IsSyntax (tokens : List Token) : Answer → Type 0 where
-  is_good : {tree : ModuleTree} → AreRead tokens tree → DeclaresOnce tree → IsSyntax tokens (Good tree)
+  is_good : {tree : ModuleTree} → AreRead tokens tree → DeclaresOnce tree
+      → IsSyntax tokens (Good tree)
   is_refused : {fault : Fault} → AreRefused tokens fault → IsSyntax tokens (Bad fault)
   is_twice : {tree : ModuleTree} {name : Token}
       → AreRead tokens tree → IsDeclaredTwice tree name

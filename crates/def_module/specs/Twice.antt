@@ -6,9 +6,11 @@ use Rattle.def_token.specs.Lexical.{Token}
 use Rattle.def_module.specs.DeclTree.{ModuleTree}
 use Rattle.def_module.specs.Scopes.{Declared, Scope, module_scopes}
 
--- one scope cannot have both: they have one name, and are not both functions, methods or requirements
+-- one scope cannot have both: they have one name, and are not both functions, methods or
+-- requirements
 abbrev pub clash : Declared → Declared → Bool
-clash this other = bytes_eq this.name.text other.name.text && not (this.overloads && other.overloads)
+clash this other =
+    bytes_eq this.name.text other.name.text && not (this.overloads && other.overloads)
 
 -- nothing that a scope declares clashes with what stands before it
 abbrev pub IsFree : Scope → Type 0
@@ -57,7 +59,8 @@ DeclaresTwice tree (Some name) = IsDeclaredTwice tree name
 abbrev pub second_behind : Scope → Scope → Option Token
 second_behind before [] = None
 second_behind before (this ∷ more) =
-    if list_any (clash this) before then Some this.name else second_behind (before ++ this ∷ []) more
+    if list_any (clash this) before then Some this.name
+    else second_behind (before ++ this ∷ []) more
 
 -- the first name of a scope that clashes with one before it, if one does
 abbrev pub second_name : Scope → Option Token
@@ -73,7 +76,8 @@ first_some (Some found ∷ more) = Some found
 abbrev pub declared_twice : ModuleTree → Option Token
 declared_twice tree = first_some (map second_name (module_scopes tree))
 
--- the function tells a name exactly where a module declares it twice, and none where it declares none twice
+-- the function tells a name exactly where a module declares it twice, and none where it declares
+-- none twice
 pub record TellsTwice (tree : ModuleTree) : Type 0 where
   pub twice : (name : Token) → (declared_twice tree ≡ Some name) ↔ IsDeclaredTwice tree name
   pub once : (declared_twice tree ≡ None) ↔ DeclaresOnce tree

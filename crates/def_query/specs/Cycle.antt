@@ -12,8 +12,8 @@ module _ {K A : Type 0} (cmp : K → K → Ordering) (r : Meaning K A) where
   abbrev pub MeetsCycle : K → Type 0
   MeetsCycle k = (x : K) × Reaches (Depends cmp r) k x × Leads (Depends cmp r) x x
 
-  -- k does not settle; following Stuck from it one comes to x, then to each key of the list in turn, and back
-  -- to x, which is less than each of them
+  -- k does not settle; following Stuck from it one comes to x, then to each key of the list in
+  -- turn, and back to x, which is less than each of them
   pub record IsCycleFrom (k x : K) (xs : List K) : Type 0 where
     pub unsettled : ¬ IsSettled cmp r k
     pub reached : Reaches (Stuck cmp r) k x

@@ -1,4 +1,5 @@
--- An example of rules: keys are numbers, and each uses those to which its edges lead, in their order.
+-- An example of rules: keys are numbers, and each uses those to which its edges lead, in their
+-- order.
 use Rattle.std.specs.Prelude.{ℕ, ◌==◌, cond, List, [], ◌∷◌, map, Option, Some, None, Result, Ok, Err}
 use Rattle.std.specs.Ordering.{nat_cmp}
 use Rattle.def_query.specs.Map.{get}
@@ -17,7 +18,8 @@ uses rest to (Some (Ok None)) = rest
 uses rest to (Some (Ok (Some fault))) = Done (Ok (Some fault))
 uses rest to (Some (Err cycle)) = Done (Err cycle)
 
--- what a body gives that goes through these edges in order, and tells `last` where none of them decides
+-- what a body gives that goes through these edges in order, and tells `last` where none of them
+-- decides
 abbrev pub body_over : List (ℕ × ℕ) → Told → ℕ → List (ℕ × Told) → Step ℕ Told
 body_over [] last k m = Done last
 body_over (e ∷ es) last k m =

@@ -14,13 +14,15 @@ module _ {K A : Type 0} (cmp : K → K → Ordering) (r : Meaning K A) where
     -- keys that compare equal are the same key
     pub one_key : (x y : K) → cmp x y ≡ Equal → x ≡ y
     -- what a body is done with, it is done with under each larger map
-    pub done_stays : (k : K) (m n : List (K × A)) (a : A) → r.body k m ≡ Done a → IsWithin cmp m n → r.body k n ≡ Done a
+    pub done_stays : (k : K) (m n : List (K × A)) (a : A) → r.body k m ≡ Done a → IsWithin cmp m n
+        → r.body k n ≡ Done a
     -- what a body needs, it needs under each larger map that lacks it
     pub needs_stay :
         (k : K) (m n : List (K × A)) (y : K)
         → r.body k m ≡ Needs y → IsWithin cmp m n → get cmp n y ≡ None → r.body k n ≡ Needs y
     -- a body needs only what its map lacks
-    pub needs_lacking : (k : K) (m : List (K × A)) (y : K) → r.body k m ≡ Needs y → get cmp m y ≡ None
+    pub needs_lacking : (k : K) (m : List (K × A)) (y : K) → r.body k m ≡ Needs y
+        → get cmp m y ≡ None
     -- a body that uses a key with a circular answer is done with this same answer
     pub circular_stays :
         (k : K) (m : List (K × A)) (y : K) (c : List K)

@@ -23,8 +23,8 @@ module _ {K A : Type 0} (cmp : K → K → Ordering) (r : Meaning K A) where
   IsRotated [] = ⊥
   IsRotated (x ∷ xs) = IsLeastFirst x xs
 
-  -- settled answers: one for a key, and that exactly where no walk of Depends meets a cycle; else there is
-  -- one cycle
+  -- settled answers: one for a key, and that exactly where no walk of Depends meets a cycle; else
+  -- there is one cycle
   pub record IsSettling : Type 0 where
     pub one_answer : (k : K) (a b : A) → Settles cmp r k a → Settles cmp r k b → a ≡ b
     pub meets_none : (k : K) → IsSettled cmp r k → ¬ MeetsCycle cmp r k
@@ -39,9 +39,11 @@ module _ {K A : Type 0} (cmp : K → K → Ordering) (r : Meaning K A) where
     pub one_answer : (k : K) (a b : A) → Answers cmp r k a → Answers cmp r k b → a ≡ b
     -- one key at most is what k is stuck at, and it has the cycle of k
     pub one_way : (k x y : K) → Stuck cmp r k x → Stuck cmp r k y → x ≡ y
-    pub same_cycle : (k x : K) (c : List K) → Stuck cmp r k x → IsCycleOf cmp r x c → IsCycleOf cmp r k c
+    pub same_cycle : (k x : K) (c : List K) → Stuck cmp r k x → IsCycleOf cmp r x c
+        → IsCycleOf cmp r k c
     -- a key that depends on one that does not settle has the answer of that one
-    pub handed_on : (k x : K) (a : A) → Depends cmp r k x → ¬ IsSettled cmp r x → Answers cmp r x a → Answers cmp r k a
+    pub handed_on : (k x : K) (a : A) → Depends cmp r k x → ¬ IsSettled cmp r x → Answers cmp r x a
+        → Answers cmp r k a
 
   -- the answer of a key tells a cycle exactly where the key does not settle
   abbrev pub IsTellingCycles : Type 0
@@ -55,7 +57,8 @@ module _ {K A : Type 0} (cmp : K → K → Ordering) (r : Meaning K A) where
 
   -- what a body gives rests on the answers that it uses
   pub record IsGrowing : Type 0 where
-    pub done : (k : K) (m n : List (K × A)) (a : A) → r.body k m ≡ Done a → Agrees k m n → r.body k n ≡ Done a
+    pub done : (k : K) (m n : List (K × A)) (a : A) → r.body k m ≡ Done a → Agrees k m n
+        → r.body k n ≡ Done a
     pub needs :
         (k : K) (m n : List (K × A)) (y : K)
         → r.body k m ≡ Needs y → Agrees k m n → get cmp n y ≡ None → r.body k n ≡ Needs y

@@ -6,11 +6,13 @@ use Rattle.def_query.specs.Meaning.{Meaning}
 use Rattle.def_query.specs.declared.step.Step.TheVariants.{Needs, Done}
 
 module _ {K A : Type 0} (cmp : K → K → Ordering) (r : Meaning K A) where
-  -- round 0 has no answers; a later round has those that bodies give from the answers of the round before
+  -- round 0 has no answers; a later round has those that bodies give from the answers of the round
+  -- before
   abbrev pub Settled : ℕ → K → A → Type 0
   Settled zero k a = ⊥
   Settled (suc n) k a =
-      (m : List (K × A)) × ((y : K) (b : A) → get cmp m y ≡ Some b → Settled n y b) × (r.body k m ≡ Done a)
+      (m : List (K × A)) × ((y : K) (b : A) → get cmp m y ≡ Some b → Settled n y b)
+      × (r.body k m ≡ Done a)
 
   -- some round has it
   pub record Settles (k : K) (a : A) : Type 0 where
@@ -21,8 +23,8 @@ module _ {K A : Type 0} (cmp : K → K → Ordering) (r : Meaning K A) where
   abbrev pub IsSettled : K → Type 0
   IsSettled k = (a : A) × Settles k a
 
-  -- what the body of k is given in turn, the latest first: each pair is of the key that it needs after the
-  -- earlier ones, with an answer that P tells
+  -- what the body of k is given in turn, the latest first: each pair is of the key that it needs
+  -- after the earlier ones, with an answer that P tells
   abbrev pub IsGiven : (K → A → Type 0) → K → List (K × A) → Type 0
   IsGiven P k [] = Unit {0}
   IsGiven P k (p ∷ m) = (r.body k m ≡ Needs p.0) × P p.0 p.1 × IsGiven P k m

@@ -10,7 +10,8 @@ pub record Told : Type 0 where
   pub token : Token
   pub code : ℕ
 
--- a place in tokens: how many stand before it, the first limit that ends at one of them, and those from it on
+-- a place in tokens: how many stand before it, the first limit that ends at one of them, and those
+-- from it on
 pub data Cursor : Type 0 where
   At : ℕ → Option Told → List Token → Cursor
 
@@ -70,22 +71,28 @@ abbrev pub reach_by : ℕ → Option Told → Option FarthestFailure
 reach_by many None = None
 reach_by many (Some told) = Some (record { many = many; told = told })
 
--- what is told at a place where no token goes on: the first limit on the way there, else E110 of the next token
+-- what is told at a place where no token goes on: the first limit on the way there, else E110 of
+-- the next token
 abbrev pub told_by : Option Told → ℕ → List Token → Option Told
 told_by None at tokens = told_at 110 at tokens
 told_by (Some told) at tokens = Some told
 
--- How far tokens are read up to a place, by a tree that has at least so many tokens, if trees are too long at `long`.
+-- How far tokens are read up to a place, by a tree that has at least so many tokens, if trees are
+-- too long at `long`.
 abbrev pub reach_at : Option Told → ℕ → Cursor → Option FarthestFailure
-reach_at long least (At at limit tokens) = reach_by at (told_by (earlier limit (before least long)) at tokens)
+reach_at long least (At at limit tokens) =
+    reach_by at (told_by (earlier limit (before least long)) at tokens)
 
 -- what is told stands behind another; at one token E111 stands behind E112
 abbrev pub is_later : Told → Told → Bool
-is_later this other = nat_lt other.at this.at || (this.at == other.at && nat_lt this.code other.code)
+is_later this other =
+    nat_lt other.at this.at || (this.at == other.at && nat_lt this.code other.code)
 
--- A way counts more than another if it goes further, and of those that go as far if what is told of it is later.
+-- A way counts more than another if it goes further, and of those that go as far if what is told of
+-- it is later.
 abbrev pub counts_more : FarthestFailure → FarthestFailure → Bool
-counts_more this other = nat_lt other.many this.many || (this.many == other.many && is_later this.told other.told)
+counts_more this other =
+    nat_lt other.many this.many || (this.many == other.many && is_later this.told other.told)
 
 -- the other of two ways where a test says so
 abbrev pub further_by : Bool → FarthestFailure → FarthestFailure → Option FarthestFailure

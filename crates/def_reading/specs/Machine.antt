@@ -1,4 +1,5 @@
--- How expressions are read: a machine that goes from token to token, and keeps what is open in frames.
+-- How expressions are read: a machine that goes from token to token, and keeps what is open in
+-- frames.
 use Rattle.std.specs.Prelude.{ℕ, suc, Bool, true, false, nat_le, List, [], ◌∷◌, ◌++◌, map, replicate, Option, Some, None, codes}
 use Rattle.std.specs.Str.{bytes_eq}
 use Prim.Native.String.{String}
@@ -13,9 +14,9 @@ use Rattle.def_tree.specs.TypeTree.{TypeWord, scalar_words, word_text, NoTypes, 
 use Rattle.def_reading.specs.Cursor.{Told, Cursor, At, advance, passed, FarthestFailure, reach_at}
 use Rattle.def_reading.specs.TypeAhead.{LookAhead, Found, Missing, names, taken_ahead}
 
--- What is open: an operator before its operand, a cast, a left operand with its operator, a condition with its `?`,
--- a condition and its first arm with the `:`, and brackets: of a group, a conversion, a call with the arguments before
--- the open one, an index.
+-- What is open: an operator before its operand, a cast, a left operand with its operator, a
+-- condition with its `?`, a condition and its first arm with the `:`, and brackets: of a group, a
+-- conversion, a call with the arguments before the open one, an index.
 pub data Frame : Type 0 where
   Prefix : UnaryOperator → Token → Frame
   Casting : Token → TypeWord → Token → Frame
@@ -27,8 +28,8 @@ pub data Frame : Type 0 where
   InCall : ExprTree → Token → List ExprTree → Frame
   InIndex : ExprTree → Token → Frame
 
--- What stands before the next token: nothing that is an operand yet, an operand, an operand and a dot, or the word of a
--- conversion or a cast.
+-- What stands before the next token: nothing that is an operand yet, an operand, an operand and a
+-- dot, or the word of a conversion or a cast.
 pub data Mode : Type 0 where
   Expected : Mode
   Value : ExprTree → Mode
@@ -41,7 +42,8 @@ pub record Config : Type 0 where
   pub mode : Mode
   pub place : Cursor
 
--- a step leads on, with how far another way goes if there is one; or the expression ends; or no token goes on
+-- a step leads on, with how far another way goes if there is one; or the expression ends; or no
+-- token goes on
 pub data Step : Type 0 where
   On : Option FarthestFailure → Config → Step
   Ends : ExprTree → Cursor → Step
@@ -77,30 +79,40 @@ abbrev pub held_by : Bool → Held → Held → Held
 held_by true closed open' = closed
 held_by false closed open' = open'
 
--- A value with the forms around it that are complete before an operator of this level: operators before it, casts, and
--- left operands of operators of this level or a tighter one.
+-- A value with the forms around it that are complete before an operator of this level: operators
+-- before it, casts, and left operands of operators of this level or a tighter one.
 abbrev pub bound : ℕ → ExprTree → List Frame → Held
 bound least value [] = (value, [])
-bound least value (Prefix operator token ∷ frames) = bound least (tree.Unary operator token value) frames
-bound least value (Casting opening word token ∷ frames) = bound least (tree.Cast opening word token value) frames
+bound least value (Prefix operator token ∷ frames) =
+    bound least (tree.Unary operator token value) frames
+bound least value (Casting opening word token ∷ frames) =
+    bound least (tree.Cast opening word token value) frames
 bound least value (Left left operator token ∷ frames) =
-    held_by (nat_le least (level operator)) (bound least (tree.Binary operator token left value) frames)
+    held_by (nat_le least (level operator))
+    (bound least (tree.Binary operator token left value) frames)
     (value, Left left operator token ∷ frames)
 bound least value (Asked condition question ∷ frames) = (value, Asked condition question ∷ frames)
-bound least value (Chosen condition question yes' ∷ frames) = (value, Chosen condition question yes' ∷ frames)
+bound least value (Chosen condition question yes' ∷ frames) =
+    (value, Chosen condition question yes' ∷ frames)
 bound least value (InGroup opening ∷ frames) = (value, InGroup opening ∷ frames)
-bound least value (InFunctionalCast word token ∷ frames) = (value, InFunctionalCast word token ∷ frames)
-bound least value (InCall callee opening args ∷ frames) = (value, InCall callee opening args ∷ frames)
+bound least value (InFunctionalCast word token ∷ frames) =
+    (value, InFunctionalCast word token ∷ frames)
+bound least value (InCall callee opening args ∷ frames) =
+    (value, InCall callee opening args ∷ frames)
 bound least value (InIndex base opening ∷ frames) = (value, InIndex base opening ∷ frames)
 
--- the whole expression that ends with a value, and the frames around it: an open `?`, brackets, or none
+-- the whole expression that ends with a value, and the frames around it: an open `?`, brackets, or
+-- none
 abbrev pub whole : ExprTree → List Frame → Held
 whole value [] = (value, [])
 whole value (Prefix operator token ∷ frames) = whole (tree.Unary operator token value) frames
-whole value (Casting opening word token ∷ frames) = whole (tree.Cast opening word token value) frames
-whole value (Left left operator token ∷ frames) = whole (tree.Binary operator token left value) frames
+whole value (Casting opening word token ∷ frames) =
+    whole (tree.Cast opening word token value) frames
+whole value (Left left operator token ∷ frames) =
+    whole (tree.Binary operator token left value) frames
 whole value (Asked condition question ∷ frames) = (value, Asked condition question ∷ frames)
-whole value (Chosen condition question yes' ∷ frames) = whole (tree.Conditional condition question yes' value) frames
+whole value (Chosen condition question yes' ∷ frames) =
+    whole (tree.Conditional condition question yes' value) frames
 whole value (InGroup opening ∷ frames) = (value, InGroup opening ∷ frames)
 whole value (InFunctionalCast word token ∷ frames) = (value, InFunctionalCast word token ∷ frames)
 whole value (InCall callee opening args ∷ frames) = (value, InCall callee opening args ∷ frames)
@@ -114,7 +126,8 @@ written_by false a others = others
 -- the first of a table that is written so
 abbrev pub written : {A : Type 0} → (A → String) → List A → List ℕ → Option A
 written text_of [] text = None
-written text_of (a ∷ others) text = written_by (bytes_eq text (codes (text_of a))) a (written text_of others text)
+written text_of (a ∷ others) text =
+    written_by (bytes_eq text (codes (text_of a))) a (written text_of others text)
 
 -- the signs with which operands begin
 pub data Start : Type 0 where
@@ -139,7 +152,8 @@ start_text (Unary operator) = unary_text operator
 -- these signs
 abbrev pub starts : List Start
 starts =
-    True ∷ False ∷ Itself ∷ OwnType ∷ Bracket ∷ Unary Minus ∷ Unary Plus ∷ Unary Not ∷ Unary Complement
+    True ∷ False ∷ Itself ∷ OwnType ∷ Bracket ∷ Unary Minus ∷ Unary Plus ∷ Unary Not
+    ∷ Unary Complement
     ∷ map Scalar scalar_words
 
 -- the signs behind operands that are no operators with two operands
@@ -208,8 +222,8 @@ abbrev pub member_by : Bool → ExprTree → Token → List Frame → Cursor →
 member_by true base name frames place = stands frames (tree.Member base name) (advance plain place)
 member_by false base name frames place = Refused place
 
--- Where an expression ends before tokens that do not go on with it. In brackets and behind `?` it does not end there;
--- there `>>=` is `>>`, and the `=` does not go on.
+-- Where an expression ends before tokens that do not go on with it. In brackets and behind `?` it
+-- does not end there; there `>>=` is `>>`, and the `=` does not go on.
 abbrev pub refused_by : Bool → Cursor → Step
 refused_by true place = Refused (passed (plain ∷ plain ∷ []) place)
 refused_by false place = Refused place
@@ -217,9 +231,11 @@ refused_by false place = Refused place
 -- where a whole expression stands before tokens that nothing around it wants
 abbrev pub ends_by : Held → List Token → Cursor → Step
 ends_by (value, []) tokens place = Ends value place
-ends_by (value, frame ∷ frames) tokens place = refused_by (bytes_eq (sign_at tokens).0 (codes ">>=")) place
+ends_by (value, frame ∷ frames) tokens place =
+    refused_by (bytes_eq (sign_at tokens).0 (codes ">>=")) place
 
--- signs behind a whole expression, by what is open around it; where nothing wants them the expression ends
+-- signs behind a whole expression, by what is open around it; where nothing wants them the
+-- expression ends
 abbrev pub colon_by : Held → List Token → Cursor → Step
 colon_by (value, Asked condition question ∷ frames) tokens place =
     expects (Chosen condition question value ∷ frames) (advance plain place)
@@ -254,7 +270,11 @@ asked_by held question place = expects (Asked held.0 question ∷ held.1) (advan
 -- an operator with its left operand
 abbrev pub operator_on : Operator → Held → Option FarthestFailure → Token → Cursor → Step
 operator_on operator held other token place =
-    On other (record { frames = Left held.0 operator token ∷ held.1; mode = Expected; place = place })
+    On other (record {
+      frames = Left held.0 operator token ∷ held.1;
+      mode = Expected;
+      place = place;
+    })
 
 -- `>` and `>>` go another way too: a whole expression may end before `>>=`.
 abbrev pub may_assign : Operator → Held → Bool
@@ -272,27 +292,39 @@ module _ (around : Nesting) (long : Option Told) where
 
   abbrev pub name_if : Bool → List Frame → Token → ℕ → Option Told → List Token → Step
   name_if true frames name at limit tokens =
-      name_by (taken_ahead (nesting around frames).types at limit tokens) frames name (At at limit tokens)
-  name_if false frames name at limit tokens = stands frames (tree.Name name NoTypes) (At at limit tokens)
+      name_by (taken_ahead (nesting around frames).types at limit tokens) frames name
+      (At at limit tokens)
+  name_if false frames name at limit tokens =
+      stands frames (tree.Name name NoTypes) (At at limit tokens)
 
   -- an operand that begins with a sign
   abbrev pub start_by : Option Start → List Frame → Token → Cursor → Step
   start_by None frames token place = empty_by (is_sign ")" (symbol token)) frames place
-  start_by (Some True) frames token place = stands frames (tree.BooleanLiteral true token) (advance plain place)
-  start_by (Some False) frames token place = stands frames (tree.BooleanLiteral false token) (advance plain place)
-  start_by (Some Itself) frames token place = stands frames (tree.Itself token) (advance plain place)
-  start_by (Some OwnType) frames token place = stands frames (tree.OwnType token) (advance plain place)
+  start_by (Some True) frames token place =
+      stands frames (tree.BooleanLiteral true token) (advance plain place)
+  start_by (Some False) frames token place =
+      stands frames (tree.BooleanLiteral false token) (advance plain place)
+  start_by (Some Itself) frames token place =
+      stands frames (tree.Itself token) (advance plain place)
+  start_by (Some OwnType) frames token place =
+      stands frames (tree.OwnType token) (advance plain place)
   start_by (Some Bracket) frames token place =
       expects (InGroup token ∷ frames) (advance (bracket_opens around frames) place)
   start_by (Some (Scalar word)) frames token place =
-      On None (record { frames = frames; mode = Converting word token; place = advance plain place })
+      On None (record {
+        frames = frames;
+        mode = Converting word token;
+        place = advance plain place;
+      })
   start_by (Some (Unary operator)) frames token place =
       expects (Prefix operator token ∷ frames) (advance (unary_opens around frames) place)
 
   -- a token where an operand is expected
   abbrev pub operand_by : Symbol → List Frame → ℕ → Option Told → Token → List Token → Step
-  operand_by Name frames at limit token tokens = name_if (begins_with "<" tokens) frames token (suc at) limit tokens
-  operand_by (Number wide) frames at limit token tokens = stands frames (tree.Number token) (At (suc at) limit tokens)
+  operand_by Name frames at limit token tokens =
+      name_if (begins_with "<" tokens) frames token (suc at) limit tokens
+  operand_by (Number wide) frames at limit token tokens =
+      stands frames (tree.Number token) (At (suc at) limit tokens)
   operand_by Text frames at limit token tokens = Refused (At at limit (token ∷ tokens))
   operand_by End frames at limit token tokens = Refused (At at limit (token ∷ tokens))
   operand_by (Sign text) frames at limit token tokens =
@@ -309,17 +341,21 @@ module _ (around : Nesting) (long : Option Told) where
   assign_by true least place = reach_at long least place
   assign_by false least place = None
 
-  abbrev pub operator_by : Option Operator → ExprTree → List Frame → ℕ → Token → List Token → Cursor → Step
-  operator_by None value frames at token tokens place = ends_by (whole value frames) (token ∷ tokens) place
+  abbrev pub operator_by : Option Operator → ExprTree → List Frame → ℕ → Token → List Token → Cursor
+      → Step
+  operator_by None value frames at token tokens place =
+      ends_by (whole value frames) (token ∷ tokens) place
   operator_by (Some operator) value frames at token tokens place =
       let behind = passed (replicate (operator_tokens operator) plain) place in
       operator_on operator (bound (level operator) value frames)
       (assign_by (may_assign operator (whole value frames)) at behind) token behind
 
   -- a token behind an operand
-  abbrev pub behind_by : Option Behind → ExprTree → List Frame → ℕ → Token → List Token → Cursor → Step
+  abbrev pub behind_by : Option Behind → ExprTree → List Frame → ℕ → Token → List Token → Cursor
+      → Step
   behind_by None value frames at token tokens place =
-      operator_by (written operator_text operators (sign_at (token ∷ tokens)).0) value frames at token tokens place
+      operator_by (written operator_text operators (sign_at (token ∷ tokens)).0) value frames at
+      token tokens place
   behind_by (Some Call) value frames at token tokens place =
       expects (InCall value token [] ∷ frames) (advance (bracket_opens around frames) place)
   behind_by (Some Index) value frames at token tokens place =
@@ -328,9 +364,12 @@ module _ (around : Nesting) (long : Option Told) where
       On None (record { frames = frames; mode = Dotted value; place = advance plain place })
   behind_by (Some Colons) value frames at token tokens place =
       On None (record { frames = frames; mode = Dotted value; place = advance plain place })
-  behind_by (Some Question) value frames at token tokens place = asked_by (bound 1 value frames) token place
-  behind_by (Some Colon) value frames at token tokens place = colon_by (whole value frames) (token ∷ tokens) place
-  behind_by (Some Comma) value frames at token tokens place = comma_by (whole value frames) (token ∷ tokens) place
+  behind_by (Some Question) value frames at token tokens place =
+      asked_by (bound 1 value frames) token place
+  behind_by (Some Colon) value frames at token tokens place =
+      colon_by (whole value frames) (token ∷ tokens) place
+  behind_by (Some Comma) value frames at token tokens place =
+      comma_by (whole value frames) (token ∷ tokens) place
   behind_by (Some Closing) value frames at token tokens place =
       closing_by (whole value frames) (token ∷ tokens) place
   behind_by (Some IndexClosing) value frames at token tokens place =
@@ -338,7 +377,8 @@ module _ (around : Nesting) (long : Option Told) where
 
   -- a step at the first of these tokens
   abbrev pub step_by : Mode → List Frame → ℕ → Option Told → Token → List Token → Step
-  step_by Expected frames at limit token tokens = operand_by (symbol token) frames at limit token tokens
+  step_by Expected frames at limit token tokens =
+      operand_by (symbol token) frames at limit token tokens
   step_by (Value value) frames at limit token tokens =
       behind_by (sign_of behind_text behinds (symbol token)) value frames at token tokens
       (At at limit (token ∷ tokens))

@@ -1,4 +1,5 @@
--- What is kept of expressions where their trees need not be the same: whether they are calls, and which forms are open.
+-- What is kept of expressions where their trees need not be the same: whether they are calls, and
+-- which forms are open.
 use Rattle.std.specs.Prelude.{Bool, true, false, List, [], ◌∷◌}
 use Rattle.def_token.specs.Lexical as lexical
 use Rattle.def_token.specs.Lexical.{Token}
@@ -68,7 +69,11 @@ plain_mode (Converting word token) = Converting word token
 -- what is kept of where the machine is
 abbrev pub plain_config : Config → Config
 plain_config config =
-    record { frames = plain_frames config.frames; mode = plain_mode config.mode; place = config.place }
+    record {
+      frames = plain_frames config.frames;
+      mode = plain_mode config.mode;
+      place = config.place;
+    }
 
 -- what is kept of a step
 abbrev pub plain_step : Step → Step

@@ -24,13 +24,16 @@ values_in around reach place =
 -- the values of fields behind an opening brace
 abbrev pub fields_in : Nesting → Token → Reader InitTree
 fields_in around opening =
-    choice (is_sign "}") plain (λ closing reach place. Reads (tree.Fields opening NoExprs) place reach)
-    (λ reach place. try_as (tree.Fields opening) (up_to (is_sign "}") (values_in around reach place)))
+    choice (is_sign "}") plain
+    (λ closing reach place. Reads (tree.Fields opening NoExprs) place reach)
+    (λ reach place. try_as (tree.Fields opening)
+    (up_to (is_sign "}") (values_in around reach place)))
 
 -- an initialiser
 abbrev pub init_in : Nesting → Reader InitTree
 init_in around =
-    choice (is_sign "{") plain (fields_in around) (λ reach place. try_as tree.Value (expr_in false around reach place))
+    choice (is_sign "{") plain (fields_in around)
+    (λ reach place. try_as tree.Value (expr_in false around reach place))
 
 -- an initialiser behind its mark, if there is one
 abbrev pub maybe_init_in : Nesting → Reader (Option InitTree)
@@ -45,7 +48,8 @@ declarator name init = record { name = name; init = init }
 -- a name with its initialiser, if there is one
 abbrev pub declarator_in : Nesting → Reader Declarator
 declarator_in around =
-    token_then names plain (λ name reach place. try_as (declarator name) (maybe_init_in around reach place))
+    token_then names plain (λ name reach place.
+    try_as (declarator name) (maybe_init_in around reach place))
 
 -- a declarator before others
 abbrev pub with_more : Declarator → List Declarator → List Declarator
@@ -71,13 +75,15 @@ maybe_type_in around =
 -- the value of a local behind its mark
 abbrev pub valued_in : Nesting → (ExprTree → LocalTree) → Reader LocalTree
 valued_in around make =
-    token_then (is_sign "=") plain (λ equals reach place. try_as make (expr_in false around reach place))
+    token_then (is_sign "=") plain
+    (λ equals reach place. try_as make (expr_in false around reach place))
 
 -- a local whose type need not be written
 abbrev pub inferred_in : Nesting → Binding → Token → Reader LocalTree
 inferred_in around binding word =
     token_then names plain (λ name reach place.
-    try_then (λ type. valued_in around (tree.Inferred binding word name type)) (maybe_type_in around reach place))
+    try_then (λ type. valued_in around (tree.Inferred binding word name type))
+    (maybe_type_in around reach place))
 
 -- a local
 abbrev pub local_in : Nesting → Reader LocalTree
@@ -89,7 +95,8 @@ local_in around =
 -- all assignments
 abbrev pub assignments : List Assignment
 assignments =
-    Set ∷ AddTo ∷ SubtractFrom ∷ MultiplyBy ∷ DivideBy ∷ RemainderBy ∷ BitAndWith ∷ BitOrWith ∷ BitXorWith
+    Set ∷ AddTo ∷ SubtractFrom ∷ MultiplyBy ∷ DivideBy ∷ RemainderBy ∷ BitAndWith ∷ BitOrWith
+    ∷ BitXorWith
     ∷ ShiftLeftBy ∷ ShiftRightBy ∷ []
 
 -- the assignment with which tokens begin, if they do
@@ -104,12 +111,15 @@ alone_by false call reach place = refused reach place
 -- an expression with no assignment behind it
 abbrev pub stepped_in : ExprTree → Reader SimpleTree
 stepped_in expr =
-    choice (is_sign "++") plain (λ token reach place. Reads (tree.PostfixStep Increment expr token) place reach)
-    (choice (is_sign "--") plain (λ token reach place. Reads (tree.PostfixStep Decrement expr token) place reach)
+    choice (is_sign "++") plain
+    (λ token reach place. Reads (tree.PostfixStep Increment expr token) place reach)
+    (choice (is_sign "--") plain
+    (λ token reach place. Reads (tree.PostfixStep Decrement expr token) place reach)
     (alone_by (is_call expr) expr))
 
 -- an assignment of an expression, or what else stands behind it
-abbrev pub assigned_by : Nesting → Option Assignment → ExprTree → Option FarthestFailure → Token → Cursor → Try SimpleTree
+abbrev pub assigned_by : Nesting → Option Assignment → ExprTree → Option FarthestFailure → Token
+    → Cursor → Try SimpleTree
 assigned_by around None expr reach token place = stepped_in expr reach place
 assigned_by around (Some assignment) expr reach token place =
     try_as (tree.Assign assignment token expr)
@@ -119,15 +129,18 @@ assigned_by around (Some assignment) expr reach token place =
 abbrev pub assigned_in : Nesting → ExprTree → Reader SimpleTree
 assigned_in around expr reach (At at limit []) = alone_by (is_call expr) expr reach (At at limit [])
 assigned_in around expr reach (At at limit (token ∷ tokens)) =
-    assigned_by around (assignment_at (token ∷ tokens)) expr reach token (At at limit (token ∷ tokens))
+    assigned_by around (assignment_at (token ∷ tokens)) expr reach token
+    (At at limit (token ∷ tokens))
 
 -- simple statements
 abbrev pub simple_in : Nesting → Reader SimpleTree
 simple_in around =
     choice (is_sign "++") plain
-    (λ token reach place. try_as (tree.PrefixStep Increment token) (expr_in false around reach place))
+    (λ token reach place. try_as (tree.PrefixStep Increment token)
+    (expr_in false around reach place))
     (choice (is_sign "--") plain
-    (λ token reach place. try_as (tree.PrefixStep Decrement token) (expr_in false around reach place))
+    (λ token reach place. try_as (tree.PrefixStep Decrement token)
+    (expr_in false around reach place))
     (λ reach place. try_then (assigned_in around) (expr_in true around reach place)))
 
 -- a name and `=` behind it
@@ -146,11 +159,13 @@ declares around place = values_behind (type_ahead (length (ahead place)) around.
 
 -- a local up to a semicolon
 abbrev pub local_up_to : {A : Type 0} → (LocalTree → A) → Nesting → Reader A
-local_up_to local around reach place = try_as local (up_to (is_sign ";") (local_in around reach place))
+local_up_to local around reach place =
+    try_as local (up_to (is_sign ";") (local_in around reach place))
 
 -- a simple statement up to a semicolon
 abbrev pub simple_up_to : {A : Type 0} → (SimpleTree → A) → Nesting → Reader A
-simple_up_to simple around reach place = try_as simple (up_to (is_sign ";") (simple_in around reach place))
+simple_up_to simple around reach place =
+    try_as simple (up_to (is_sign ";") (simple_in around reach place))
 
 -- a local alone, or a local or else a simple statement
 abbrev pub either_by : {A : Type 0} → Bool → (LocalTree → A) → (SimpleTree → A) → Nesting → Reader A
@@ -160,7 +175,8 @@ either_by false local simple around reach place =
 
 -- A local up to a semicolon, or else a simple statement. What is both is a local.
 abbrev pub either_in : {A : Type 0} → (LocalTree → A) → (SimpleTree → A) → Nesting → Reader A
-either_in local simple around reach place = either_by (declares around place) local simple around reach place
+either_in local simple around reach place =
+    either_by (declares around place) local simple around reach place
 
 -- heads of loops
 abbrev pub start_in : Nesting → Reader StartTree
@@ -219,7 +235,8 @@ stmts_in stmt zero reach place = refused reach place
 stmts_in stmt (suc turns) reach place =
     choice (is_sign "}") plain (λ closing reach place. Reads NoStmts place reach)
     (λ reach place.
-    try_then (λ first reach place. try_as (MoreStmts first) (stmts_in stmt turns reach place)) (stmt reach place))
+    try_then (λ first reach place. try_as (MoreStmts first) (stmts_in stmt turns reach place))
+    (stmt reach place))
     reach place
 
 -- a word alone
@@ -234,7 +251,8 @@ module _ (around : Nesting) (stmt : Nesting → Reader StmtTree) where
 
   abbrev pub block_in : Token → Reader StmtTree
   block_in opening reach place =
-      try_as (tree.Block opening) (stmts_in (stmt (in_block around)) (suc (length (ahead place))) reach place)
+      try_as (tree.Block opening)
+      (stmts_in (stmt (in_block around)) (suc (length (ahead place))) reach place)
 
   -- `else` belongs to the nearest `if`
   abbrev pub else_in : Token → ExprTree → StmtTree → Reader StmtTree
@@ -259,8 +277,10 @@ module _ (around : Nesting) (stmt : Nesting → Reader StmtTree) where
       token_then (is_sign "(") (opens bracket.brackets) (λ opening reach place.
       try_then (λ start reach place.
       try_then (λ condition reach place.
-      try_then (λ step reach place. try_as (tree.For word start condition step) (body_in reach place))
-      (maybe_simple_in bracket reach place)) (maybe_expr_in bracket reach place)) (start_in bracket reach place))
+      try_then (λ step reach place.
+      try_as (tree.For word start condition step) (body_in reach place))
+      (maybe_simple_in bracket reach place)) (maybe_expr_in bracket reach place))
+      (start_in bracket reach place))
 
   -- a statement behind the sign with which it begins
   abbrev pub behind_in : Opening → Token → Reader StmtTree
@@ -280,12 +300,14 @@ module _ (around : Nesting) (stmt : Nesting → Reader StmtTree) where
 
   abbrev pub stmt_by : Option Opening → Option FarthestFailure → Token → Cursor → Try StmtTree
   stmt_by None reach token place = either_in tree.Local tree.Simple around reach place
-  stmt_by (Some opening) reach token place = behind_in opening token reach (passed (opening_entry opening ∷ []) place)
+  stmt_by (Some opening) reach token place =
+      behind_in opening token reach (passed (opening_entry opening ∷ []) place)
 
   abbrev pub stmt_at : Reader StmtTree
   stmt_at reach (At at limit []) = refused reach (At at limit [])
   stmt_at reach (At at limit (token ∷ tokens)) =
-      stmt_by (sign_of opening_text openings (symbol token)) reach token (At at limit (token ∷ tokens))
+      stmt_by (sign_of opening_text openings (symbol token)) reach token
+      (At at limit (token ∷ tokens))
 
 -- statements that nest at most so deep
 abbrev pub stmt_in : ℕ → Nesting → Reader StmtTree

@@ -13,7 +13,8 @@ use Rattle.def_reading.specs.Cursor.{Told, Cursor, At, told_at, noted, advance, 
 use Rattle.def_reading.specs.TypeAhead.{LookAhead, Found, Missing, type_ahead}
 use Rattle.def_reading.specs.TypeReading.{Reading, nowhere}
 
--- a tree, the place behind it, and how far other ways go; or how far tokens are read where there is none
+-- a tree, the place behind it, and how far other ways go; or how far tokens are read where there is
+-- none
 pub data Try (A : Type 0) : Type 0 where
   Reads : A → Cursor → Option FarthestFailure → Try A
   Stops : Option FarthestFailure → Try A
@@ -57,7 +58,8 @@ choice_by true entry yes' no' reach token place = yes' token reach (advance entr
 choice_by false entry yes' no' reach token place = no' reach place
 
 -- what is read behind the next token, if it passes a test, or else what is read at it
-abbrev pub choice : {A : Type 0} → (Symbol → Bool) → Entry → (Token → Reader A) → Reader A → Reader A
+abbrev pub choice : {A : Type 0} → (Symbol → Bool) → Entry → (Token → Reader A) → Reader A
+    → Reader A
 choice test entry yes' no' reach (At at limit []) = no' reach (At at limit [])
 choice test entry yes' no' reach (At at limit (token ∷ tokens)) =
     choice_by (test (symbol token)) entry yes' no' reach token (At at limit (token ∷ tokens))
@@ -75,7 +77,8 @@ abbrev pub listed : {A B : Type 0} → (A → B → B) → B → Reader A → �
 listed more none part zero reach place = refused reach place
 listed more none part (suc turns) reach place =
     try_then (λ a.
-    choice (is_sign ",") plain (λ comma reach place. try_as (more a) (listed more none part turns reach place))
+    choice (is_sign ",") plain
+    (λ comma reach place. try_as (more a) (listed more none part turns reach place))
     (λ reach place. Reads (more a none) place reach))
     (part reach place)
 
@@ -85,7 +88,8 @@ ahead (At at limit tokens) = tokens
 
 -- where an expression with these tokens is too long, if they are so many
 abbrev pub long_from : Cursor → Option Told
-long_from (At at limit tokens) = told_at (code_of Long) (at + greatest_length) (drop greatest_length tokens)
+long_from (At at limit tokens) =
+    told_at (code_of Long) (at + greatest_length) (drop greatest_length tokens)
 
 -- the place, and how far it goes, behind an expression that is too long at `long`
 abbrev pub finished : Option Told → Cursor → Cursor
@@ -95,8 +99,8 @@ finished long (At at limit tokens) = At at (earlier limit (before at long)) toke
 abbrev pub reach_in : Option Told → Cursor → Option FarthestFailure
 reach_in long (At at limit tokens) = reach_at long at (At at limit tokens)
 
--- Other ways, by whether an assignment may stand behind the expression: if it may not, an expression does not end
--- before `>>=`.
+-- Other ways, by whether an assignment may stand behind the expression: if it may not, an
+-- expression does not end before `>>=`.
 abbrev pub way_by : Bool → Mode → Option FarthestFailure → Option FarthestFailure
 way_by true mode other = other
 way_by false Expected other = other
@@ -119,9 +123,11 @@ module _ (around : Nesting) (assigns : Bool) (long : Option Told) where
   end_by false reach expr place = Reads expr (finished long place) reach
 
   -- what a step comes to, if what is behind it comes to this
-  abbrev pub run_by : (Option FarthestFailure → Config → Try ExprTree) → Mode → Option FarthestFailure → Step → Try ExprTree
+  abbrev pub run_by : (Option FarthestFailure → Config → Try ExprTree) → Mode
+      → Option FarthestFailure → Step → Try ExprTree
   run_by more mode reach (On other config) = more (further reach (way_by assigns mode other)) config
-  run_by more mode reach (Ends expr place) = end_by (assign_ends assigns (ahead place)) reach expr place
+  run_by more mode reach (Ends expr place) =
+      end_by (assign_ends assigns (ahead place)) reach expr place
   run_by more mode reach (Refused place) = refused_in reach place
 
   -- what the machine comes to in at most so many steps

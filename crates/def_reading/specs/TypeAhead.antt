@@ -32,7 +32,8 @@ names End = false
 names (Sign text) = false
 
 -- a dot with a name behind it and more of them, a dot with something else behind it, or no dot
-abbrev pub path_by : Bool → Bool → ℕ → Option Told → Token → Token → List Token → LookAhead (List Token)
+abbrev pub path_by : Bool → Bool → ℕ → Option Told → Token → Token → List Token
+    → LookAhead (List Token)
     → LookAhead (List Token)
 path_by true true at limit dot name tokens more = found_as (λ path. name ∷ path) more
 path_by true false at limit dot name tokens more = Missing (At (suc at) limit (name ∷ tokens))
@@ -50,7 +51,8 @@ path_ahead at limit (dot ∷ name ∷ tokens) =
 abbrev pub path_from : Cursor → LookAhead (List Token)
 path_from (At at limit tokens) = path_ahead at limit tokens
 
--- a type by what its first token begins: the place behind this token, and the type arguments there, if there are any
+-- a type by what its first token begins: the place behind this token, and the type arguments there,
+-- if there are any
 abbrev pub type_by : Lead → Cursor → LookAhead TypeTrees → Token → Cursor → LookAhead TypeTree
 type_by (AWord word) behind args first place = found_as (Word word first) (path_from behind)
 type_by AName behind args first place =
@@ -58,7 +60,8 @@ type_by AName behind args first place =
 type_by NoType behind args first place = Missing place
 
 -- what stands behind a type in a list: a comma and more types, the closing mark, or neither
-abbrev pub list_by : Bool → Bool → (Cursor → LookAhead TypeTrees) → TypeTree → Cursor → Cursor → LookAhead TypeTrees
+abbrev pub list_by : Bool → Bool → (Cursor → LookAhead TypeTrees) → TypeTree → Cursor → Cursor
+    → LookAhead TypeTrees
 list_by true closes more type behind place = found_as (MoreTypes type) (more behind)
 list_by false true more type behind place = Found (MoreTypes type NoTypes) behind
 list_by false false more type behind place = Missing place
@@ -92,7 +95,8 @@ abbrev mutual
   pub list_ahead : ℕ → ℕ → Cursor → LookAhead TypeTrees
   list_ahead zero types place = Missing place
   list_ahead (suc turns) types place =
-      found_then (λ type behind. list_behind (list_ahead turns types) type behind) (type_ahead turns types place)
+      found_then (λ type behind. list_behind (list_ahead turns types) type behind)
+      (type_ahead turns types place)
 
 -- a token behind type arguments leads on
 abbrev pub leads_on : List Token → Bool

@@ -21,7 +21,8 @@ unexpected token = Err (record { token = token; code = 110 })
 
 -- where there is no token; tokens end with their end, so that this is never told
 abbrev pub nowhere : {A : Type 0} → Result A Stop
-nowhere = unexpected (record { kind = lexical.End; text = []; start = 0; end = 0; place = record { line = 1; column = 1 } })
+nowhere = unexpected (record
+    { kind = lexical.End; text = []; start = 0; end = 0; place = record { line = 1; column = 1 } })
 
 -- the last token is the end
 abbrev pub Ended : List Token → Type 0
@@ -43,7 +44,8 @@ lead_by false word other = other
 -- the first of some words that a text is
 abbrev pub lead_among : List TypeWord → List ℕ → Lead
 lead_among [] text = NoType
-lead_among (word ∷ words) text = lead_by (bytes_eq text (codes (word_text word))) word (lead_among words text)
+lead_among (word ∷ words) text =
+    lead_by (bytes_eq text (codes (word_text word))) word (lead_among words text)
 
 -- what a symbol begins
 abbrev pub lead_of : Symbol → Lead

@@ -20,10 +20,13 @@ tokens_of w =
     codes "RWStructuredBuffer" ∷ codes "<" ∷ codes "int" ∷ codes ">" ∷ w.buffer ∷ codes ";"
     ∷ codes "[" ∷ codes "shader" ∷ codes "(" ∷ codes "\"compute\"" ∷ codes ")" ∷ codes "]"
     ∷ codes "[" ∷ codes "numthreads" ∷ codes "("
-    ∷ decimal w.threads.0 ∷ codes "," ∷ decimal w.threads.1 ∷ codes "," ∷ decimal w.threads.2 ∷ codes ")" ∷ codes "]"
-    ∷ codes "void" ∷ w.entry ∷ codes "(" ∷ codes "uint3" ∷ w.id ∷ codes ":" ∷ codes "SV_DispatchThreadID" ∷ codes ")"
+    ∷ decimal w.threads.0 ∷ codes "," ∷ decimal w.threads.1 ∷ codes "," ∷ decimal w.threads.2
+    ∷ codes ")" ∷ codes "]"
+    ∷ codes "void" ∷ w.entry ∷ codes "(" ∷ codes "uint3" ∷ w.id ∷ codes ":"
+    ∷ codes "SV_DispatchThreadID" ∷ codes ")"
     ∷ codes "{"
-    ∷ w.buffer ∷ codes "[" ∷ w.id ∷ codes "." ∷ codes "x" ∷ codes "]" ∷ codes "=" ∷ decimal w.value ∷ codes ";"
+    ∷ w.buffer ∷ codes "[" ∷ w.id ∷ codes "." ∷ codes "x" ∷ codes "]" ∷ codes "=" ∷ decimal w.value
+    ∷ codes ";"
     ∷ codes "}"
     ∷ []
 
@@ -38,7 +41,8 @@ pub record IsGroup (threads : ℕ × ℕ × ℕ) : Type 0 where
   pub z : (1 ≤ threads.2) × (threads.2 ≤ 1024)
   pub all : threads.0 * threads.1 * threads.2 ≤ 1024
 
--- names are different and no keywords, groups are as above, and the number is no more than the greatest int
+-- names are different and no keywords, groups are as above, and the number is no more than the
+-- greatest int
 pub record IsAllowed (w : BufferWrite) : Type 0 where
   pub buffer : IsTrue (is_free_name w.buffer)
   pub entry : IsTrue (is_free_name w.entry)

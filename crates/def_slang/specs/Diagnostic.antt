@@ -56,7 +56,9 @@ texts =
 
 -- what stands before, between and behind the arguments of a code
 abbrev pub pieces_of : ℕ → List (List ℕ)
-pieces_of code = option_map_or (λ (entry : ℕ × List (List ℕ)). entry.1) (find (λ (entry : ℕ × List (List ℕ)). entry.0 == code) texts) []
+pieces_of code =
+    option_map_or (λ (entry : ℕ × List (List ℕ)). entry.1)
+    (find (λ (entry : ℕ × List (List ℕ)). entry.0 == code) texts) []
 
 -- pieces and arguments in turn
 abbrev pub weave : List (List ℕ) → List (List ℕ) → List ℕ
@@ -71,7 +73,9 @@ circular = 901
 -- each query on the circle points to the next one, and the last one to the first
 abbrev pub circle_text : List (List ℕ) → List ℕ
 circle_text [] = codes "circular: "
-circle_text (first ∷ others) = codes "circular: " ++ (first ++ (flat_map (λ query. codes " -> " ++ query) others ++ (codes " -> " ++ first)))
+circle_text (first ∷ others) =
+    codes "circular: " ++ (first
+    ++ (flat_map (λ query. codes " -> " ++ query) others ++ (codes " -> " ++ first)))
 
 -- the text of a code with its arguments
 abbrev pub message : ℕ → List (List ℕ) → List ℕ
@@ -79,4 +83,5 @@ message code args = if code == circular then circle_text args else weave (pieces
 
 -- the code has a text, which takes this number of arguments
 abbrev pub takes : ℕ → ℕ → Bool
-takes code arguments = if code == circular then nat_lt 0 arguments else length (pieces_of code) == arguments + 1
+takes code arguments =
+    if code == circular then nat_lt 0 arguments else length (pieces_of code) == arguments + 1

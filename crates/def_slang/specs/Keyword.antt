@@ -8,12 +8,15 @@ abbrev pub keywords : List (List ℕ)
 keywords =
     codes "module" ∷ codes "import" ∷ codes "__exported"
     ∷ codes "public" ∷ codes "internal" ∷ codes "private"
-    ∷ codes "typealias" ∷ codes "static" ∷ codes "const" ∷ codes "struct" ∷ codes "interface" ∷ codes "extension"
+    ∷ codes "typealias" ∷ codes "static" ∷ codes "const" ∷ codes "struct" ∷ codes "interface"
+    ∷ codes "extension"
     ∷ codes "where" ∷ codes "mutating" ∷ codes "override" ∷ codes "associatedtype"
     ∷ codes "in" ∷ codes "inout" ∷ codes "vk" ∷ codes "binding"
     ∷ codes "StructuredBuffer" ∷ codes "RWStructuredBuffer" ∷ codes "shader" ∷ codes "numthreads"
-    ∷ codes "int" ∷ codes "uint" ∷ codes "int64_t" ∷ codes "uint64_t" ∷ codes "bool" ∷ codes "void" ∷ codes "uint3" ∷ codes "This"
-    ∷ codes "return" ∷ codes "break" ∷ codes "continue" ∷ codes "if" ∷ codes "else" ∷ codes "while" ∷ codes "for"
+    ∷ codes "int" ∷ codes "uint" ∷ codes "int64_t" ∷ codes "uint64_t" ∷ codes "bool" ∷ codes "void"
+    ∷ codes "uint3" ∷ codes "This"
+    ∷ codes "return" ∷ codes "break" ∷ codes "continue" ∷ codes "if" ∷ codes "else" ∷ codes "while"
+    ∷ codes "for"
     ∷ codes "let" ∷ codes "var" ∷ codes "true" ∷ codes "false" ∷ codes "this"
     ∷ []
 

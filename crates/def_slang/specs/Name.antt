@@ -14,4 +14,5 @@ is_word_byte b = is_ascii_alphanumeric b || b == 95
 -- a letter or `_`, then letters, digits and `_`, of at most 255 bytes in all
 abbrev pub is_name : List ℕ → Bool
 is_name [] = false
-is_name (b ∷ bytes) = (begins_name b && list_all is_word_byte bytes) && nat_le (length (b ∷ bytes)) 255
+is_name (b ∷ bytes) =
+    (begins_name b && list_all is_word_byte bytes) && nat_le (length (b ∷ bytes)) 255

@@ -7,7 +7,8 @@ use Rattle.def_slang.specs.Name.{is_word_byte}
 abbrev pub is_white : ℕ → Bool
 is_white b = (b == 32 || b == 9) || (b == 10 || b == 13)
 
--- A word goes on as far as it can, so no letter, digit or `_` stands behind one. Other tokens end where they end.
+-- A word goes on as far as it can, so no letter, digit or `_` stands behind one. Other tokens end
+-- where they end.
 abbrev pub ends_before : List ℕ → List ℕ → Bool
 ends_before token [] = true
 ends_before token (b ∷ rest) = if list_all is_word_byte token then not (is_word_byte b) else true
@@ -22,7 +23,8 @@ pub record Begins (text token rest : List ℕ) : Type 0 where
 -- the text is these tokens, with white space before each, then the rest
 abbrev pub Spells : List ℕ → List (List ℕ) → List ℕ → Type 0
 Spells text [] rest = text ≡ rest
-Spells text (token ∷ tokens) rest = (after : List ℕ) × Begins text token after × Spells after tokens rest
+Spells text (token ∷ tokens) rest =
+    (after : List ℕ) × Begins text token after × Spells after tokens rest
 
 -- the text is these tokens, with white space before, between and behind them
 pub record IsText (text : List ℕ) (tokens : List (List ℕ)) : Type 0 where

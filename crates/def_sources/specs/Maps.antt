@@ -1,5 +1,5 @@
--- Where modules are looked for. A map is a list of pairs of a name and bytes, of which the first one
--- with a name counts.
+-- Where modules are looked for. A map is a list of pairs of a name and bytes, of which the first
+-- one with a name counts.
 use Rattle.std.specs.Prelude.{ℕ, List, [], ◌∷◌, Option, None}
 use Rattle.std.specs.Option.{option_or}
 use Rattle.sl_io.specs.Root.{bytes_of}

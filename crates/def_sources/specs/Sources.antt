@@ -16,7 +16,8 @@ nothing = record { modules = []; absent = [] }
 
 -- the sources and a further name, with the bytes that were found for it or none
 abbrev pub gained : Sources → List ℕ → Option (List ℕ) → Sources
-gained sources name (Some bytes) = record sources { modules = sources.modules ++ (name, bytes) ∷ [] }
+gained sources name (Some bytes) =
+    record sources { modules = sources.modules ++ (name, bytes) ∷ [] }
 gained sources name None = record sources { absent = sources.absent ++ name ∷ [] }
 
 -- the names of the sources: those of the modules, then the absent ones
@@ -29,7 +30,8 @@ imports bytes = []
 
 -- the names that are mentioned: the given ones, then the imports of each module found, in order
 abbrev pub mentioned : List (List ℕ) → Sources → List (List ℕ)
-mentioned names sources = names ++ flat_map (λ (file : List ℕ × List ℕ). imports file.1) sources.modules
+mentioned names sources =
+    names ++ flat_map (λ (file : List ℕ × List ℕ). imports file.1) sources.modules
 
 -- the first name that is mentioned and was not taken yet
 abbrev pub next_name : List (List ℕ) → Sources → Option (List ℕ)

@@ -41,6 +41,10 @@ array_stride = 6
 abbrev pub built_in : ℕ
 built_in = 11
 
+-- `NonWritable` ("Decoration")
+abbrev pub non_writable : ℕ
+non_writable = 24
+
 -- `Binding` ("Decoration")
 abbrev pub binding : ℕ
 binding = 33

@@ -44,7 +44,8 @@ words_where test (Text bytes) = []
 
 -- the words of an instruction that pass a test of their role, in order
 abbrev pub words_of : (Role → Bool) → Instruction → List ℕ
-words_of test i = elim (operands_of i) [ None ↦ [] | Some parts ↦ flat_map (words_where test) parts ]
+words_of test i =
+    elim (operands_of i) [ None ↦ [] | Some parts ↦ flat_map (words_where test) parts ]
 
 -- whether a word is the id that the instruction defines
 abbrev pub is_result : Role → Bool

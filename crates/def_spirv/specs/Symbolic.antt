@@ -46,13 +46,19 @@ operand_words number (Text bytes) = text_words bytes
 
 -- an instruction with numbers for its ids
 abbrev pub numbered_line : {I : Type 0} → (I → ℕ) → Line I → Instruction
-numbered_line number line = record { opcode = line.opcode; operands = flat_map (operand_words number) line.operands }
+numbered_line number line =
+    record { opcode = line.opcode; operands = flat_map (operand_words number) line.operands }
 
--- ids are numbered in the order in which the words first mention them; the bound is one more than the last
+-- ids are numbered in the order in which the words first mention them; the bound is one more than
+-- the last
 abbrev pub numbered : {I : Type 0} → (I → I → Bool) → List (Line I) → Module
 numbered same lines =
     let ids = firsts same (mentions lines) in
-    record { generator = 0; bound = length ids + 1; instructions = map (numbered_line (number_of same ids)) lines }
+    record {
+      generator = 0;
+      bound = length ids + 1;
+      instructions = map (numbered_line (number_of same ids)) lines;
+    }
 
 -- the instructions of a module by section (SPIR-V 1.5, 2.4, "Logical Layout of a Module")
 pub record Sections (I : Type 0) : Type 0 where
@@ -67,4 +73,6 @@ pub record Sections (I : Type 0) : Type 0 where
 
 -- all instructions in the order of the sections
 abbrev pub section_lines : {I : Type 0} → Sections I → List (Line I)
-section_lines s = s.capabilities ++ s.memory_model ++ s.entry_points ++ s.execution_modes ++ s.names ++ s.decorations ++ s.globals ++ s.functions
+section_lines s =
+    s.capabilities ++ s.memory_model ++ s.entry_points ++ s.execution_modes ++ s.names
+    ++ s.decorations ++ s.globals ++ s.functions

@@ -67,7 +67,8 @@ mode_setting =
     entry op.memory_model (One (Enumerant AddressingModel) ∷ One (Enumerant MemoryModel) ∷ [])
     ∷ entry op.entry_point
     (One (Enumerant ExecutionModel) ∷ One Reference ∷ LiteralString ∷ Rest Reference ∷ [])
-    ∷ entry op.execution_mode (One Reference ∷ One (Enumerant ExecutionMode) ∷ Rest LiteralNumber ∷ [])
+    ∷ entry op.execution_mode
+    (One Reference ∷ One (Enumerant ExecutionMode) ∷ Rest LiteralNumber ∷ [])
     ∷ entry op.capability (One (Enumerant Capability) ∷ [])
     ∷ []
 
@@ -120,16 +121,19 @@ conversion = entry op.bitcast (value (One Reference ∷ [])) ∷ []
 abbrev pub composite : List Entry
 composite =
     entry op.composite_construct (value (Rest Reference ∷ []))
-    ∷ entry op.composite_extract (value (One Reference ∷ One LiteralNumber ∷ Rest LiteralNumber ∷ []))
+    ∷ entry op.composite_extract
+    (value (One Reference ∷ One LiteralNumber ∷ Rest LiteralNumber ∷ []))
     ∷ []
 
--- a value made from another, from two, and from three
+-- a value made from one other
 abbrev pub of_one : ℕ → Entry
 of_one opcode = entry opcode (value (One Reference ∷ []))
 
+-- a value made from two others
 abbrev pub of_two : ℕ → Entry
 of_two opcode = entry opcode (value (One Reference ∷ One Reference ∷ []))
 
+-- a value made from three others
 abbrev pub of_three : ℕ → Entry
 of_three opcode = entry opcode (value (One Reference ∷ One Reference ∷ One Reference ∷ []))
 

@@ -1,4 +1,5 @@
--- Modules of numbers: instructions, words and bytes (SPIR-V 1.5, 2.3, "Physical Layout of a SPIR-V Module and Instruction").
+-- Modules of numbers: instructions, words and bytes (SPIR-V 1.5, 2.3, "Physical Layout of a SPIR-V
+-- Module and Instruction").
 use Rattle.std.specs.Prelude.{ℕ, ◌+◌, ◌*◌, ◌^◌, List, [], ◌∷◌, ◌++◌, length}
 use Rattle.std.specs.List.{flat_map}
 use Rattle.std.specs.Int.{w32, to_le_bytes, from_le_bytes}
@@ -32,7 +33,9 @@ instruction_words i = (2 ^ 16 * (length i.operands + 1) + i.opcode) ∷ i.operan
 
 -- five words of header, then the instructions
 abbrev pub module_words : Module → List ℕ
-module_words m = (magic ∷ version ∷ m.generator ∷ m.bound ∷ schema ∷ []) ++ flat_map instruction_words m.instructions
+module_words m =
+    (magic ∷ version ∷ m.generator ∷ m.bound ∷ schema ∷ [])
+    ++ flat_map instruction_words m.instructions
 
 -- the bytes of words, the lowest byte of each first
 abbrev pub word_bytes : List ℕ → List ℕ

@@ -10,4 +10,5 @@ SyntaxIsTold = (text : List ℕ) (answer : Answer) → (syntax_in text ≡ answe
 
 -- `tree_in` tells the tree of which nothing is told
 abbrev pub TreesAreTold : Type 0
-TreesAreTold = (text : List ℕ) (tree : ModuleTree) → (tree_in text ≡ Some tree) ↔ HasSyntax text (Good tree)
+TreesAreTold =
+    (text : List ℕ) (tree : ModuleTree) → (tree_in text ≡ Some tree) ↔ HasSyntax text (Good tree)

@@ -1,4 +1,5 @@
--- The tokens of a text, or its first lexical fault: `HasTokens` and `HasLexicalFault` as a function.
+-- The tokens of a text, or its first lexical fault: `HasTokens` and `HasLexicalFault` as a
+-- function.
 use Rattle.std.specs.Prelude.{◌≡◌, ◌↔◌, ℕ, zero, suc, ◌-◌, Bool, false, not, ◌&&◌, ◌||◌, nat_lt, nat_le, nat_eq, List, [], ◌∷◌, ◌++◌, length, take, drop, find, Option, Some, None, Result, Ok, Err, codes}
 use Rattle.std.specs.List.{list_all, starts_with}
 use Rattle.std.specs.Str.{bytes_eq}
@@ -17,7 +18,8 @@ is_behind front passes bytes =
 abbrev pub is_before : List ℕ → (List ℕ → Bool) → List ℕ → Bool
 is_before end passes bytes =
     let count = length bytes - length end in
-    nat_le (length end) (length bytes) && (bytes_eq (drop count bytes) end && passes (take count bytes))
+    nat_le (length end) (length bytes)
+    && (bytes_eq (drop count bytes) end && passes (take count bytes))
 
 -- one byte or more, all of a kind
 abbrev pub is_run : (ℕ → Bool) → List ℕ → Bool
@@ -69,7 +71,8 @@ piece_or bytes None other = other
 -- the longest front of the text, of at most this many bytes, that is a piece
 abbrev pub longest : ℕ → List ℕ → Option Piece
 longest zero text = None
-longest (suc count) text = piece_or (take (suc count) text) (class_of (take (suc count) text)) (longest count text)
+longest (suc count) text =
+    piece_or (take (suc count) text) (class_of (take (suc count) text)) (longest count text)
 
 -- the longest front of the text that is a piece
 abbrev pub front_of : List ℕ → Option Piece
@@ -80,7 +83,8 @@ abbrev pub piece_and : (List ℕ → List Piece) → List ℕ → Option Piece �
 piece_and behind text (Some piece) = piece ∷ behind (drop (length piece.bytes) text)
 piece_and behind text None = []
 
--- The pieces of a text, of which there are at most so many. A text with a byte begins with a piece, so none is left.
+-- The pieces of a text, of which there are at most so many. A text with a byte begins with a piece,
+-- so none is left.
 abbrev pub pieces_of : ℕ → List ℕ → List Piece
 pieces_of zero text = []
 pieces_of (suc most) text = piece_and (pieces_of most) text (front_of text)
@@ -91,7 +95,8 @@ before token (Ok tokens) = Ok (token ∷ tokens)
 before token (Err fault) = Err fault
 
 -- what is told by the verdict on a piece behind these bytes, and of what stands behind the piece
-abbrev pub told_by : Verdict → List ℕ → Piece → Result (List Token) Fault → Result (List Token) Fault
+abbrev pub told_by : Verdict → List ℕ → Piece → Result (List Token) Fault
+    → Result (List Token) Fault
 told_by Skipped front piece more = more
 told_by (IsToken kind) front piece more = before (token_behind front kind piece.bytes) more
 told_by (IsFault code) front piece more =
@@ -100,11 +105,13 @@ told_by (IsFault code) front piece more =
 -- what is told of pieces behind these bytes: their tokens and the end, or the first fault
 abbrev pub told_of : List ℕ → List Piece → Result (List Token) Fault
 told_of front [] = Ok (token_behind front End [] ∷ [])
-told_of front (piece ∷ pieces) = told_by (verdict piece) front piece (told_of (front ++ piece.bytes) pieces)
+told_of front (piece ∷ pieces) =
+    told_by (verdict piece) front piece (told_of (front ++ piece.bytes) pieces)
 
 -- the tokens of a text, or its first lexical fault
 unfoldable pub lexed : List ℕ → Result (List Token) Fault
-lexed text = let rest = without_mark text in told_of (mark_before text) (pieces_of (length rest) rest)
+lexed text = let rest = without_mark text in
+    told_of (mark_before text) (pieces_of (length rest) rest)
 
 -- `lexed` tells the tokens of a text, and its first lexical fault
 pub record IsLexed (text : List ℕ) : Type 0 where

@@ -1,4 +1,5 @@
--- The pieces of a text: white space, comments, words, strings and marks, and what should have been one.
+-- The pieces of a text: white space, comments, words, strings and marks, and what should have been
+-- one.
 use Rattle.std.specs.Prelude.{◌≡◌, ℕ, ◌<◌, ◌≤◌, ◌⊎◌, Bool, false, not, ◌&&◌, ◌||◌, ◌==◌, nat_eq, List, [], ◌∷◌, ◌++◌, length, take, codes, IsTrue}
 use Rattle.std.specs.List.{list_all, starts_with}
 use Rattle.def_token.specs.Mark.{is_mark}
@@ -75,7 +76,8 @@ pub record IsOpenQuoted (bytes : List ℕ) : Type 0 where
 
 -- the byte begins none of the others; each byte that begins a mark is one
 abbrev pub begins_nothing : ℕ → Bool
-begins_nothing b = (not (is_white b) && not (is_word_byte b)) && (not (b == 34) && not (is_mark (b ∷ [])))
+begins_nothing b =
+    (not (is_white b) && not (is_word_byte b)) && (not (b == 34) && not (is_mark (b ∷ [])))
 
 -- one byte that begins nothing
 pub record IsStray (bytes : List ℕ) : Type 0 where

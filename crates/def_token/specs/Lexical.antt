@@ -122,7 +122,8 @@ tokens_of before piece = tokens_by (verdict piece) before piece.bytes
 -- the tokens among pieces that stand behind these bytes
 abbrev pub tokens_among : List ℕ → List Piece → List Token
 tokens_among before [] = []
-tokens_among before (piece ∷ pieces) = tokens_of before piece ++ tokens_among (before ++ piece.bytes) pieces
+tokens_among before (piece ∷ pieces) =
+    tokens_of before piece ++ tokens_among (before ++ piece.bytes) pieces
 
 -- the bytes of pieces, one piece behind the other
 abbrev pub bytes_of : List Piece → List ℕ
@@ -156,9 +157,12 @@ pub record HasLexicalFault (text : List ℕ) (fault : Fault) : Type 0 where
 
 -- A text has at most one list of tokens and at most one fault, and not both.
 pub record IsDetermined (text : List ℕ) : Type 0 where
-  pub tokens : (these others : List Token) → HasTokens text these → HasTokens text others → these ≡ others
-  pub fault : (this other : Fault) → HasLexicalFault text this → HasLexicalFault text other → this ≡ other
-  pub one : (tokens : List Token) (fault : Fault) → HasTokens text tokens → HasLexicalFault text fault → ⊥
+  pub tokens : (these others : List Token) → HasTokens text these → HasTokens text others
+      → these ≡ others
+  pub fault : (this other : Fault) → HasLexicalFault text this → HasLexicalFault text other
+      → this ≡ other
+  pub one : (tokens : List Token) (fault : Fault) → HasTokens text tokens
+      → HasLexicalFault text fault → ⊥
 
 -- each text is determined
 abbrev pub TextsAreDetermined : Type 0
@@ -181,4 +185,5 @@ pub record IsSequence (text : List ℕ) (tokens : List Token) : Type 0 where
 
 -- the tokens of each text are such a sequence
 abbrev pub TokensAreSequences : Type 0
-TokensAreSequences = (text : List ℕ) (tokens : List Token) → HasTokens text tokens → IsSequence text tokens
+TokensAreSequences =
+    (text : List ℕ) (tokens : List Token) → HasTokens text tokens → IsSequence text tokens

@@ -8,7 +8,8 @@ abbrev pub marks : List (List ℕ)
 marks =
     codes "<<="
     ∷ codes "::" ∷ codes "<<" ∷ codes "<=" ∷ codes "==" ∷ codes "!=" ∷ codes "&&" ∷ codes "||"
-    ∷ codes "+=" ∷ codes "-=" ∷ codes "*=" ∷ codes "/=" ∷ codes "%=" ∷ codes "&=" ∷ codes "|=" ∷ codes "^="
+    ∷ codes "+=" ∷ codes "-=" ∷ codes "*=" ∷ codes "/=" ∷ codes "%=" ∷ codes "&=" ∷ codes "|="
+    ∷ codes "^="
     ∷ codes "++" ∷ codes "--"
     ∷ codes "{" ∷ codes "}" ∷ codes "(" ∷ codes ")" ∷ codes "[" ∷ codes "]"
     ∷ codes ";" ∷ codes "," ∷ codes "." ∷ codes ":" ∷ codes "?"

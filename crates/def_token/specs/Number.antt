@@ -130,12 +130,14 @@ number_at base digits suffix =
 -- the number of digits with the suffix of this text
 abbrev pub number_by : Base → List ℕ → List ℕ → Option Number
 number_by base digits text =
-    if are_digits base digits then option_and_then (number_at base digits) (suffix_of text) else None
+    if are_digits base digits then option_and_then (number_at base digits) (suffix_of text)
+    else None
 
 -- the number of a text behind its prefix
 abbrev pub number_behind : Base → List ℕ → Option Number
 number_behind base text =
-    let count = prefix_len (is_digit_of base) text in number_by base (take count text) (drop count text)
+    let count = prefix_len (is_digit_of base) text in
+    number_by base (take count text) (drop count text)
 
 -- the number that a word is, if it is one: `IsNumber` as a function
 abbrev pub number_of : List ℕ → Option Number
@@ -143,4 +145,5 @@ number_of word = let base = base_of word in number_behind base (drop (length (pr
 
 -- `number_of` tells what `IsNumber` says
 abbrev pub NumbersAreTold : Type 0
-NumbersAreTold = (word : List ℕ) (number : Number) → (number_of word ≡ Some number) ↔ IsNumber word number
+NumbersAreTold =
+    (word : List ℕ) (number : Number) → (number_of word ≡ Some number) ↔ IsNumber word number

@@ -4,7 +4,8 @@ use Rattle.def_token.specs.Lexical.{Token}
 use Rattle.def_tree.specs.Operator.{Operator, UnaryOperator}
 use Rattle.def_tree.specs.TypeTree.{TypeTrees, TypeWord}
 
--- An expression by its form, with the tokens at which it is told: names, words, operators and opening brackets.
+-- An expression by its form, with the tokens at which it is told: names, words, operators and
+-- opening brackets.
 mutual
   pub data ExprTree : Type 0 where
     Number : Token → ExprTree

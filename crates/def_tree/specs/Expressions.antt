@@ -47,7 +47,8 @@ mutual
     of_generic : {token : Token} {tokens rest : List Token} {args : TypeTrees}
         → IsName token → TakesTypeArgs tokens args rest
         → IsPrimary (token ∷ tokens) (tree.Name token args) rest
-    of_functional_cast : {word : TypeWord} {token opening closing : Token} {tokens rest : List Token} {operand : ExprTree}
+    of_functional_cast : {word : TypeWord} {token opening closing : Token}
+        {tokens rest : List Token} {operand : ExprTree}
         → IsTrue (is_scalar word) → Is (word_text word) token
         → Is "(" opening → IsExpr tokens operand (closing ∷ rest) → Is ")" closing
         → IsPrimary (token ∷ opening ∷ tokens) (tree.FunctionalCast word token operand) rest
@@ -63,7 +64,8 @@ mutual
     of_primary : {tokens rest : List Token} {expr : ExprTree}
         → IsPrimary tokens expr rest
         → IsPostfix tokens expr rest
-    of_call : {opening : Token} {tokens behind rest : List Token} {callee : ExprTree} {args : ExprTrees}
+    of_call : {opening : Token} {tokens behind rest : List Token} {callee : ExprTree}
+        {args : ExprTrees}
         → IsPostfix tokens callee (opening ∷ behind) → Is "(" opening → IsArguments behind args rest
         → IsPostfix tokens (tree.Call callee opening args) rest
     of_index : {opening closing : Token} {tokens behind rest : List Token} {base index : ExprTree}
@@ -88,17 +90,20 @@ mutual
     last_expr : {tokens rest : List Token} {expr : ExprTree}
         → IsExpr tokens expr rest
         → IsExprList tokens (MoreExprs expr NoExprs) rest
-    more_exprs : {comma : Token} {tokens behind rest : List Token} {expr : ExprTree} {exprs : ExprTrees}
+    more_exprs : {comma : Token} {tokens behind rest : List Token} {expr : ExprTree}
+        {exprs : ExprTrees}
         → IsExpr tokens expr (comma ∷ behind) → Is "," comma → IsExprList behind exprs rest
         → IsExprList tokens (MoreExprs expr exprs) rest
 
-  -- Unary = ( "-" | "+" | "!" | "~" ) Unary | "(" ( "int" | "uint" | "int64_t" | "uint64_t" | "bool" ) ")" Unary
-  --       | Postfix
+  -- Unary = ( "-" | "+" | "!" | "~" ) Unary
+  --     | "(" ( "int" | "uint" | "int64_t" | "uint64_t" | "bool" ) ")" Unary | Postfix
   pub data IsUnary : List Token → ExprTree → List Token → Type 0 where
-    of_operator : {operator : UnaryOperator} {token : Token} {tokens rest : List Token} {operand : ExprTree}
+    of_operator : {operator : UnaryOperator} {token : Token} {tokens rest : List Token}
+        {operand : ExprTree}
         → Is (unary_text operator) token → IsUnary tokens operand rest
         → IsUnary (token ∷ tokens) (tree.Unary operator token operand) rest
-    of_cast : {word : TypeWord} {opening token closing : Token} {tokens rest : List Token} {operand : ExprTree}
+    of_cast : {word : TypeWord} {opening token closing : Token} {tokens rest : List Token}
+        {operand : ExprTree}
         → Is "(" opening → IsTrue (is_scalar word) → Is (word_text word) token → Is ")" closing
         → IsUnary tokens operand rest
         → IsUnary (opening ∷ token ∷ closing ∷ tokens) (tree.Cast opening word token operand) rest
@@ -106,13 +111,14 @@ mutual
         → IsPostfix tokens expr rest
         → IsUnary tokens expr rest
 
-  -- The operators of a level or a tighter one. On its left an operator has those of its own level, or tighter ones;
-  -- on its right it has tighter ones.
+  -- The operators of a level or a tighter one. On its left an operator has those of its own level,
+  -- or tighter ones; on its right it has tighter ones.
   pub data IsBinary : ℕ → List Token → ExprTree → List Token → Type 0 where
     of_unary : {least : ℕ} {tokens rest : List Token} {expr : ExprTree}
         → IsUnary tokens expr rest
         → IsBinary least tokens expr rest
-    of_operands : {least : ℕ} {operator : Operator} {token : Token} {tokens after behind rest : List Token}
+    of_operands : {least : ℕ} {operator : Operator} {token : Token}
+        {tokens after behind rest : List Token}
         {left right : ExprTree}
         → least ≤ level operator
         → IsBinary (level operator) tokens left (token ∷ after)
@@ -125,7 +131,9 @@ mutual
     of_binary : {tokens rest : List Token} {expr : ExprTree}
         → IsBinary 1 tokens expr rest
         → IsExpr tokens expr rest
-    of_condition : {question colon : Token} {tokens behind after rest : List Token} {condition yes' no' : ExprTree}
+    of_condition : {question colon : Token} {tokens behind after rest : List Token}
+        {condition yes' no' : ExprTree}
         → IsBinary 1 tokens condition (question ∷ behind)
-        → Is "?" question → IsExpr behind yes' (colon ∷ after) → Is ":" colon → IsExpr after no' rest
+        → Is "?" question → IsExpr behind yes' (colon ∷ after) → Is ":" colon
+        → IsExpr after no' rest
         → IsExpr tokens (tree.Conditional condition question yes' no') rest

@@ -27,9 +27,9 @@ greatest_nesting = 64
 abbrev pub greatest_length : ℕ
 greatest_length = 1024
 
--- How many forms of each kind are open at a place. Brackets are `(` and `[`; blocks are those of statements; unary
--- operators are those before their operands, but no casts; statements are those behind `if (..)`, `else`, `while (..)`
--- and `for (..)`.
+-- How many forms of each kind are open at a place. Brackets are `(` and `[`; blocks are those of
+-- statements; unary operators are those before their operands, but no casts; statements are those
+-- behind `if (..)`, `else`, `while (..)` and `for (..)`.
 pub record Nesting : Type 0 where
   pub brackets : ℕ
   pub blocks : ℕ
@@ -78,7 +78,8 @@ led_by entry (first ∷ entries) = first_of first entry ∷ entries
 
 -- the entries of an expression that stands in no other
 abbrev pub at_most_long : List Entry → List Entry
-at_most_long entries = take greatest_length entries ++ led_by (Some Long) (drop greatest_length entries)
+at_most_long entries =
+    take greatest_length entries ++ led_by (Some Long) (drop greatest_length entries)
 
 -- the entries of names behind dots
 abbrev pub path_entries : List Token → List Entry
@@ -89,17 +90,20 @@ path_entries (name ∷ path) = plain ∷ plain ∷ path_entries path
 abbrev mutual
   pub type_entries : ℕ → TypeTree → List Entry
   type_entries types (Word word first path) = opens (suc types) ∷ path_entries path
-  type_entries types (Named first args path) = opens (suc types) ∷ (args_entries (suc types) args ++ path_entries path)
+  type_entries types (Named first args path) =
+      opens (suc types) ∷ (args_entries (suc types) args ++ path_entries path)
 
   -- type arguments with their marks, if there are any
   pub args_entries : ℕ → TypeTrees → List Entry
   args_entries types NoTypes = []
-  args_entries types (MoreTypes type more) = plain ∷ (type_entries types type ++ more_types_entries types more)
+  args_entries types (MoreTypes type more) =
+      plain ∷ (type_entries types type ++ more_types_entries types more)
 
   -- types with a comma before each, and the mark behind them
   pub more_types_entries : ℕ → TypeTrees → List Entry
   more_types_entries types NoTypes = plain ∷ []
-  more_types_entries types (MoreTypes type more) = plain ∷ (type_entries types type ++ more_types_entries types more)
+  more_types_entries types (MoreTypes type more) =
+      plain ∷ (type_entries types type ++ more_types_entries types more)
 
 -- how many tokens an operator has
 abbrev pub operator_tokens : Operator → ℕ
@@ -124,10 +128,12 @@ abbrev mutual
       plain ∷ opens inside.brackets ∷ (expr_entries inside operand ++ plain ∷ [])
   expr_entries around (expr.OwnType token) = plain ∷ []
   expr_entries around (expr.Group opening inner) =
-      let inside = in_bracket around in opens inside.brackets ∷ (expr_entries inside inner ++ plain ∷ [])
+      let inside = in_bracket around in
+      opens inside.brackets ∷ (expr_entries inside inner ++ plain ∷ [])
   expr_entries around (expr.Call callee opening args) =
       let inside = in_bracket around in
-      expr_entries around callee ++ opens inside.brackets ∷ (exprs_entries inside args ++ plain ∷ [])
+      expr_entries around callee ++ opens inside.brackets
+      ∷ (exprs_entries inside args ++ plain ∷ [])
   expr_entries around (expr.Index base opening index) =
       let inside = in_bracket around in
       expr_entries around base ++ opens inside.brackets ∷ (expr_entries inside index ++ plain ∷ [])
@@ -137,14 +143,17 @@ abbrev mutual
   expr_entries around (expr.Cast opening word token operand) =
       opens (suc around.brackets) ∷ plain ∷ plain ∷ expr_entries around operand
   expr_entries around (expr.Binary operator token left right) =
-      expr_entries around left ++ (replicate (operator_tokens operator) plain ++ expr_entries around right)
+      expr_entries around left ++ (replicate (operator_tokens operator) plain
+      ++ expr_entries around right)
   expr_entries around (expr.Conditional condition question yes' no') =
-      expr_entries around condition ++ plain ∷ (expr_entries around yes' ++ plain ∷ expr_entries around no')
+      expr_entries around condition ++ plain
+      ∷ (expr_entries around yes' ++ plain ∷ expr_entries around no')
 
   -- expressions with a comma between them
   pub exprs_entries : Nesting → ExprTrees → List Entry
   exprs_entries around NoExprs = []
-  exprs_entries around (MoreExprs first more) = expr_entries around first ++ more_exprs_entries around more
+  exprs_entries around (MoreExprs first more) =
+      expr_entries around first ++ more_exprs_entries around more
 
   -- expressions with a comma before each
   pub more_exprs_entries : Nesting → ExprTrees → List Entry
@@ -165,12 +174,14 @@ more_values_entries around (MoreExprs first more) =
 -- the entries of whole expressions with a comma between them
 abbrev pub values_entries : Nesting → ExprTrees → List Entry
 values_entries around NoExprs = []
-values_entries around (MoreExprs first more) = whole_entries around first ++ more_values_entries around more
+values_entries around (MoreExprs first more) =
+    whole_entries around first ++ more_values_entries around more
 
 -- the entries of an initialiser; its braces are no block
 abbrev pub init_entries : Nesting → InitTree → List Entry
 init_entries around (tree.Value value) = whole_entries around value
-init_entries around (tree.Fields opening values) = plain ∷ (values_entries around values ++ plain ∷ [])
+init_entries around (tree.Fields opening values) =
+    plain ∷ (values_entries around values ++ plain ∷ [])
 
 -- the entries of an initialiser with its mark, if there is one
 abbrev pub maybe_init_entries : Nesting → Option InitTree → List Entry
@@ -190,7 +201,8 @@ more_declarators_entries around (first ∷ more) =
 -- the entries of declarators with a comma between them
 abbrev pub declarators_entries : Nesting → List Declarator → List Entry
 declarators_entries around [] = []
-declarators_entries around (first ∷ more) = declarator_entries around first ++ more_declarators_entries around more
+declarators_entries around (first ∷ more) =
+    declarator_entries around first ++ more_declarators_entries around more
 
 -- the entries of a word, if it is written
 abbrev pub word_entries : Option Token → List Entry
@@ -212,7 +224,8 @@ local_entries around (tree.Inferred binding word name type value) =
 -- the entries of a simple statement
 abbrev pub simple_entries : Nesting → SimpleTree → List Entry
 simple_entries around (tree.Assign assignment token place value) =
-    whole_entries around place ++ (replicate (assignment_tokens assignment) plain ++ whole_entries around value)
+    whole_entries around place
+    ++ (replicate (assignment_tokens assignment) plain ++ whole_entries around value)
 simple_entries around (tree.PostfixStep step place token) = whole_entries around place ++ plain ∷ []
 simple_entries around (tree.PrefixStep step token place) = plain ∷ whole_entries around place
 simple_entries around (tree.CallStatement call) = whole_entries around call
@@ -236,7 +249,8 @@ maybe_simple_entries around (Some simple) = simple_entries around simple ++ plai
 -- the entries of a condition in its brackets
 abbrev pub condition_entries : Nesting → ExprTree → List Entry
 condition_entries around condition =
-    let inside = in_bracket around in opens inside.brackets ∷ (whole_entries inside condition ++ plain ∷ [])
+    let inside = in_bracket around in
+    opens inside.brackets ∷ (whole_entries inside condition ++ plain ∷ [])
 
 -- the entries of statements, inside what is open
 abbrev mutual
@@ -251,7 +265,8 @@ abbrev mutual
   stmt_entries around (tree.Continue word) = plain ∷ plain ∷ []
   stmt_entries around (tree.If word condition yes') =
       let inside = in_statement around in
-      plain ∷ (condition_entries around condition ++ led_by (opens inside.statements) (stmt_entries inside yes'))
+      plain ∷ (condition_entries around condition
+      ++ led_by (opens inside.statements) (stmt_entries inside yes'))
   stmt_entries around (tree.IfElse word condition yes' no') =
       let inside = in_statement around in
       plain ∷ (condition_entries around condition
@@ -259,15 +274,18 @@ abbrev mutual
       ++ plain ∷ led_by (opens inside.statements) (stmt_entries inside no')))
   stmt_entries around (tree.While word condition body) =
       let inside = in_statement around in
-      plain ∷ (condition_entries around condition ++ led_by (opens inside.statements) (stmt_entries inside body))
+      plain ∷ (condition_entries around condition
+      ++ led_by (opens inside.statements) (stmt_entries inside body))
   stmt_entries around (tree.For word start condition step body) =
       let bracket = in_bracket around in
       let inside = in_statement around in
       plain ∷ opens bracket.brackets ∷ (start_entries bracket start
       ++ (maybe_expr_entries bracket condition
-      ++ (maybe_simple_entries bracket step ++ led_by (opens inside.statements) (stmt_entries inside body))))
+      ++ (maybe_simple_entries bracket step
+      ++ led_by (opens inside.statements) (stmt_entries inside body))))
 
   -- statements, and the closing brace
   pub stmts_entries : Nesting → StmtTrees → List Entry
   stmts_entries around NoStmts = plain ∷ []
-  stmts_entries around (MoreStmts first more) = stmt_entries around first ++ stmts_entries around more
+  stmts_entries around (MoreStmts first more) =
+      stmt_entries around first ++ stmts_entries around more

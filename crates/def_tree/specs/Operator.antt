@@ -28,7 +28,8 @@ pub data Operator : Type 0 where
 -- all of them
 abbrev pub operators : List Operator
 operators =
-    Or ∷ And ∷ BitOr ∷ BitXor ∷ BitAnd ∷ Equal ∷ NotEqual ∷ Less ∷ LessEqual ∷ Greater ∷ GreaterEqual
+    Or ∷ And ∷ BitOr ∷ BitXor ∷ BitAnd ∷ Equal ∷ NotEqual ∷ Less ∷ LessEqual ∷ Greater
+    ∷ GreaterEqual
     ∷ ShiftLeft ∷ ShiftRight ∷ Add ∷ Subtract ∷ Multiply ∷ Divide ∷ Remainder ∷ []
 
 -- how an operator is written
@@ -155,9 +156,10 @@ after_one first (second ∷ tokens) =
     if joins first ">" second then after_two second tokens
     else (if joins first "=" second then (codes ">=", tokens) else (codes ">", second ∷ tokens))
 
--- The sign with which tokens begin, as expressions read it: `>>`, `>=` and `>>=` are `>` with tokens that touch.
--- Since `==` is one token, none of it joins a `>` before it.
+-- The sign with which tokens begin, as expressions read it: `>>`, `>=` and `>>=` are `>` with
+-- tokens that touch. Since `==` is one token, none of it joins a `>` before it.
 abbrev pub sign_at : List Token → SignAt
 sign_at [] = ([], [])
 sign_at (first ∷ tokens) =
-    if is_sign ">" (symbol first) then after_one first tokens else (sign_text (symbol first), tokens)
+    if is_sign ">" (symbol first) then after_one first tokens
+    else (sign_text (symbol first), tokens)

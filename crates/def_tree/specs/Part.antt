@@ -17,7 +17,8 @@ abbrev pub is_name_alone : TypeTree → Bool
 is_name_alone (Named first NoTypes []) = true
 is_name_alone _ = false
 
--- A type goes on with these tokens: behind it with a dot, behind a name alone with type arguments too.
+-- A type goes on with these tokens: behind it with a dot, behind a name alone with type arguments
+-- too.
 abbrev pub type_goes_on : TypeTree → List Token → Bool
 type_goes_on type tokens = begins_with "." tokens || (is_name_alone type && begins_with "<" tokens)
 
@@ -28,12 +29,14 @@ signs_behind = "?" ∷ "(" ∷ "[" ∷ "." ∷ "::" ∷ []
 -- tokens begin with an operator that has two operands
 abbrev pub begins_with_operator : List Token → Bool
 begins_with_operator tokens =
-    list_any (λ (operator : Operator). bytes_eq (sign_at tokens).0 (codes (operator_text operator))) operators
+    list_any (λ (operator : Operator). bytes_eq (sign_at tokens).0 (codes (operator_text operator)))
+    operators
 
 -- an expression goes on with these tokens
 abbrev pub expr_goes_on : List Token → Bool
 expr_goes_on tokens =
-    begins_with_operator tokens || list_any (λ (sign : String). begins_with sign tokens) signs_behind
+    begins_with_operator tokens
+    || list_any (λ (sign : String). begins_with sign tokens) signs_behind
 
 -- the tokens begin with a type, and nothing goes on with it
 pub record IsTypePart (tokens : List Token) (type : TypeTree) (rest : List Token) : Type 0 where
@@ -45,6 +48,7 @@ pub record IsExprPart (tokens : List Token) (expr : ExprTree) (rest : List Token
   pub tree : IsExpr tokens expr rest
   pub ended : expr_goes_on rest ≡ false
 
--- The tokens begin with a statement. An `else` that could go on with it goes on with it by the grammar.
+-- The tokens begin with a statement. An `else` that could go on with it goes on with it by the
+-- grammar.
 abbrev pub IsStmtPart : List Token → StmtTree → List Token → Type 0
 IsStmtPart tokens stmt rest = IsStmt tokens stmt rest

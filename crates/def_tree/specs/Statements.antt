@@ -70,7 +70,8 @@ pub data IsLocal : List Token → LocalTree → List Token → Type 0 where
   of_type : {tokens behind rest : List Token} {type : TypeTree} {declarators : List Declarator}
       → IsType tokens type behind → AreDeclarators behind declarators rest
       → IsLocal tokens (tree.Typed None type declarators) rest
-  of_const : {word : Token} {tokens behind rest : List Token} {type : TypeTree} {declarators : List Declarator}
+  of_const : {word : Token} {tokens behind rest : List Token} {type : TypeTree}
+      {declarators : List Declarator}
       → Is "const" word → IsType tokens type behind → AreDeclarators behind declarators rest
       → IsLocal (word ∷ tokens) (tree.Typed (Some word) type declarators) rest
   of_binding : {binding : Binding} {word name equals : Token} {tokens behind rest : List Token}
@@ -79,8 +80,8 @@ pub data IsLocal : List Token → LocalTree → List Token → Type 0 where
       → Is "=" equals → IsExpr behind value rest
       → IsLocal (word ∷ name ∷ tokens) (tree.Inferred binding word name type value) rest
 
--- Simple = Expr ( "=" | "+=" | "-=" | "*=" | "/=" | "%=" | "&=" | "|=" | "^=" | "<<=" | ">>=" ) Expr
---        | Expr "++" | Expr "--" | "++" Expr | "--" Expr | Expr
+-- Simple = Expr ( "=" | "+=" | "-=" | "*=" | "/=" | "%=" | "&=" | "|=" | "^=" | "<<=" | ">>=" )
+--     Expr | Expr "++" | Expr "--" | "++" Expr | "--" Expr | Expr
 -- An expression alone is a call.
 pub data IsSimple : List Token → SimpleTree → List Token → Type 0 where
   of_assignment : {assignment : Assignment} {token : Token} {tokens after behind rest : List Token}
@@ -143,9 +144,9 @@ pub data IsCondition : List Token → ExprTree → List Token → Type 0 where
       → IsCondition (opening ∷ tokens) condition rest
 
 mutual
-  -- Stmt = Block | Local ";" | Simple ";" | ";" | "return" [ Expr ] ";" | "break" ";" | "continue" ";"
-  --      | "if" "(" Expr ")" Stmt [ "else" Stmt ] | "while" "(" Expr ")" Stmt
-  --      | "for" "(" [ Local | Simple ] ";" [ Expr ] ";" [ Simple ] ")" Stmt
+  -- Stmt = Block | Local ";" | Simple ";" | ";" | "return" [ Expr ] ";" | "break" ";"
+  --     | "continue" ";" | "if" "(" Expr ")" Stmt [ "else" Stmt ] | "while" "(" Expr ")" Stmt
+  --     | "for" "(" [ Local | Simple ] ";" [ Expr ] ";" [ Simple ] ")" Stmt
   -- An `if` without `else` stands before no `else`, which would be its own.
   pub data IsStmt : List Token → StmtTree → List Token → Type 0 where
     of_block : {opening : Token} {tokens rest : List Token} {stmts : StmtTrees}
@@ -169,19 +170,24 @@ mutual
     of_continue : {word semicolon : Token} {rest : List Token}
         → Is "continue" word → Is ";" semicolon
         → IsStmt (word ∷ semicolon ∷ rest) (tree.Continue word) rest
-    of_if : {word : Token} {tokens behind rest : List Token} {condition : ExprTree} {yes' : StmtTree}
+    of_if : {word : Token} {tokens behind rest : List Token} {condition : ExprTree}
+        {yes' : StmtTree}
         → Is "if" word → IsCondition tokens condition behind → IsStmt behind yes' rest
         → begins_with "else" rest ≡ false
         → IsStmt (word ∷ tokens) (tree.If word condition yes') rest
-    of_if_else : {word otherwise : Token} {tokens behind after rest : List Token} {condition : ExprTree}
+    of_if_else : {word otherwise : Token} {tokens behind after rest : List Token}
+        {condition : ExprTree}
         {yes' no' : StmtTree}
-        → Is "if" word → IsCondition tokens condition behind → IsStmt behind yes' (otherwise ∷ after)
+        → Is "if" word → IsCondition tokens condition behind
+        → IsStmt behind yes' (otherwise ∷ after)
         → Is "else" otherwise → IsStmt after no' rest
         → IsStmt (word ∷ tokens) (tree.IfElse word condition yes' no') rest
-    of_while : {word : Token} {tokens behind rest : List Token} {condition : ExprTree} {body : StmtTree}
+    of_while : {word : Token} {tokens behind rest : List Token} {condition : ExprTree}
+        {body : StmtTree}
         → Is "while" word → IsCondition tokens condition behind → IsStmt behind body rest
         → IsStmt (word ∷ tokens) (tree.While word condition body) rest
-    of_for : {word opening : Token} {tokens second third behind rest : List Token} {start : StartTree}
+    of_for : {word opening : Token} {tokens second third behind rest : List Token}
+        {start : StartTree}
         {condition : Option ExprTree} {step : Option SimpleTree} {body : StmtTree}
         → Is "for" word → Is "(" opening → IsStart tokens start second
         → MayBeExpr second condition third → MayBeSimple third step behind → IsStmt behind body rest

@@ -5,7 +5,8 @@ use Prim.Native.String.{String}
 use Rattle.def_token.specs.Lexical as lexical
 use Rattle.def_token.specs.Lexical.{Kind, Token}
 
--- a name, a number, by whether its type has 64 bits, a string, the end, or a sign: a mark or a keyword
+-- a name, a number, by whether its type has 64 bits, a string, the end, or a sign: a mark or a
+-- keyword
 pub data Symbol : Type 0 where
   Name : Symbol
   Number : Bool → Symbol
@@ -13,7 +14,8 @@ pub data Symbol : Type 0 where
   End : Symbol
   Sign : List ℕ → Symbol
 
--- A number has a type of 64 bits: it ends in `ll`, `LL`, `ull` or `ULL`. No digit is one of these letters.
+-- A number has a type of 64 bits: it ends in `ll`, `LL`, `ull` or `ULL`. No digit is one of these
+-- letters.
 abbrev pub is_wide : List ℕ → Bool
 is_wide text = let last = slice_index text (length text - 1) in last == 108 || last == 76
 

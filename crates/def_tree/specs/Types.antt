@@ -1,4 +1,5 @@
--- The grammar of types. A relation of this grammar says that tokens are those of a tree, and then a rest.
+-- The grammar of types. A relation of this grammar says that tokens are those of a tree, and then a
+-- rest.
 use Rattle.std.specs.Prelude.{List, [], ◌∷◌}
 use Rattle.def_token.specs.Lexical.{Token}
 use Rattle.def_tree.specs.Symbol.{Is, IsName}
@@ -12,8 +13,8 @@ pub data IsPath : List Token → List Token → List Token → Type 0 where
       → IsPath (dot ∷ name ∷ tokens) (name ∷ path) rest
 
 mutual
-  -- Type = ( "int" | "uint" | "int64_t" | "uint64_t" | "bool" | "void" | "uint3" | "This" | Name [ TypeArgs ] )
-  --        { "." Name }
+  -- Type = ( "int" | "uint" | "int64_t" | "uint64_t" | "bool" | "void" | "uint3" | "This"
+  --     | Name [ TypeArgs ] ) { "." Name }
   pub data IsType : List Token → TypeTree → List Token → Type 0 where
     of_word : {word : TypeWord} {first : Token} {tokens path rest : List Token}
         → Is (word_text word) first → IsPath tokens path rest
@@ -36,6 +37,7 @@ mutual
     last_type : {tokens rest : List Token} {type : TypeTree}
         → IsType tokens type rest
         → IsTypeList tokens (MoreTypes type NoTypes) rest
-    more_types : {comma : Token} {tokens behind rest : List Token} {type : TypeTree} {types : TypeTrees}
+    more_types : {comma : Token} {tokens behind rest : List Token} {type : TypeTree}
+        {types : TypeTrees}
         → IsType tokens type (comma ∷ behind) → Is "," comma → IsTypeList behind types rest
         → IsTypeList tokens (MoreTypes type types) rest

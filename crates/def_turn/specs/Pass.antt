@@ -8,8 +8,8 @@ pub record Lock (S : Type 0) : Type 0 where
   pub table : TableId
   pub subject : S
 
--- what a caller knows: its number, the beginning of the history that it has seen, its books, how many
--- turns it has had, and the least number not yet given out, or 0 where it gives out none
+-- what a caller knows: its number, the beginning of the history that it has seen, its books, how
+-- many turns it has had, and the least number not yet given out, or 0 where it gives out none
 pub record PassState (S E : Type 0) : Type 0 where
   pub lock : Lock S
   pub number : ℕ
@@ -46,19 +46,21 @@ abbrev pub longer : {E : Type 0} → List E → List E → List E
 longer xs ys = if ltb (length xs) (length ys) then ys else xs
 
 module _ {S E : Type 0} (by : E → ℕ) where
-  -- a history that begins with what the pass has seen, and has of each number that it holds the entries
-  -- of its book alone, and no further entry of its own number
+  -- a history that begins with what the pass has seen, and has of each number that it holds the
+  -- entries of its book alone, and no further entry of its own number
   pub record IsCurrent (pass : PassState S E) (history : List E) : Type 0 where
     pub begins : IsPrefix pass.seen history
-    pub booked : (n : ℕ) (entries : List E) → HasBook pass.books n entries → entries_of by n history ≡ entries
+    pub booked : (n : ℕ) (entries : List E) → HasBook pass.books n entries
+        → entries_of by n history ≡ entries
     pub own : entries_of by pass.number history ≡ entries_of by pass.number pass.seen
 
-  -- what holds of every pass: what it has seen is legal, it holds its own number, and of each number
-  -- that it holds it has seen the entries of its book, each once and in order
+  -- what holds of every pass: what it has seen is legal, it holds its own number, and of each
+  -- number that it holds it has seen the entries of its book, each once and in order
   pub record IsRight (legal : S → List E → Type 0) (pass : PassState S E) : Type 0 where
     pub legal_seen : legal pass.lock.subject pass.seen
     pub own : Holds pass.books pass.number
-    pub booked : (n : ℕ) (entries : List E) → HasBook pass.books n entries → entries_of by n pass.seen ≡ entries
+    pub booked : (n : ℕ) (entries : List E) → HasBook pass.books n entries
+        → entries_of by n pass.seen ≡ entries
 
 -- the pass holds every number that was given out
 abbrev pub HoldsAll : {S E : Type 0} → PassState S E → Type 0
@@ -66,7 +68,8 @@ HoldsAll pass = (pass.next ≢ 0) × ((n : ℕ) → 1 ≤ n → n < pass.next �
 
 -- the first pass of a lock
 abbrev pub first_pass : {S E : Type 0} → Lock S → PassState S E
-first_pass lock = record { lock = lock; number = 1; seen = []; books = (1, []) ∷ []; turns = 0; next = 2 }
+first_pass lock =
+    record { lock = lock; number = 1; seen = []; books = (1, []) ∷ []; turns = 0; next = 2 }
 
 -- the pass that another gives out under its next number
 abbrev pub split_pass : {S E : Type 0} → PassState S E → PassState S E

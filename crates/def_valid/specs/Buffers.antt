@@ -7,7 +7,6 @@ use Rattle.def_spirv.specs.Opcodes as op
 use Rattle.def_spirv.specs.Words.{Module}
 use Rattle.def_valid.specs.Calls.{IsDecoration, IsGlobal}
 use Rattle.def_valid.specs.Places.{opcode_at, operand_at, operands_from, place_of, opcode_of, operand_of}
-use Rattle.def_valid.specs.Sections.{non_writable}
 use Rattle.def_valid.specs.Types.{is_integer_type, is_unsigned_type, pointee_of, width_of}
 
 -- an id has one decoration of a kind
@@ -58,9 +57,8 @@ abbrev pub alignment_of_members : Sizes → List ℕ → ℕ
 alignment_of_members s [] = 1
 alignment_of_members s (t ∷ types) = max (s.alignment t) (alignment_of_members s types)
 
--- An integer has as many bytes as its width asks, and is aligned to them; a struct is aligned
--- as its
--- greatest member, and its size is a multiple of that.
+-- An integer has as many bytes as its width asks, and is aligned to them; a struct is aligned as
+-- its greatest member, and its size is a multiple of that.
 pub record AreSizes (m : Module) (s : Sizes) : Type 0 where
   pub integer_size : (t : ℕ) → is_integer_type m t ≡ true → s.size t ≡ width_of m t / 8
   pub integer_alignment : (t : ℕ) → is_integer_type m t ≡ true → s.alignment t ≡ width_of m t / 8
@@ -149,7 +147,7 @@ abbrev pub MayDecorate : Module → ℕ → ℕ → Type 0
 MayDecorate m id decoration =
     ((decoration ≡ enumerant.built_in) × IsGlobalOf m enumerant.input id)
     ⊎ (((decoration ≡ enumerant.descriptor_set) ⊎ (decoration ≡ enumerant.binding)
-    ⊎ (decoration ≡ non_writable))
+    ⊎ (decoration ≡ enumerant.non_writable))
     × IsGlobalOf m enumerant.storage_buffer id)
     ⊎ ((decoration ≡ enumerant.block)
     × ((v : ℕ) × IsBlockOf m v id))

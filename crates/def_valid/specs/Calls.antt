@@ -8,7 +8,7 @@ use Rattle.def_spirv.specs.Operands.{references_of}
 use Rattle.def_spirv.specs.Words.{Module}
 use Rattle.def_valid.specs.Ids.{uses_at}
 use Rattle.def_valid.specs.Places.{first_of, instruction_at, opcode_at, operand_at, result_at, place_of, opcode_of, operand_of, function_at, is_inside}
-use Rattle.def_valid.specs.Sections.{entry_function, non_writable}
+use Rattle.def_valid.specs.Sections.{entry_function}
 
 -- the function in which a place stands, by its id
 abbrev pub function_around : Module → ℕ → ℕ
@@ -75,4 +75,5 @@ abbrev pub StoresGoThrough : Module → Type 0
 StoresGoThrough m =
     (k v : ℕ) → opcode_at m k ≡ op.store → IsRootedIn m (operand_at m k 0) v
     → opcode_of m v ≡ op.variable
-    → (operand_of m v 2 ≢ enumerant.input) × ((j : ℕ) → IsDecoration m v non_writable j → ⊥)
+    → (operand_of m v 2 ≢ enumerant.input)
+    × ((j : ℕ) → IsDecoration m v enumerant.non_writable j → ⊥)

@@ -9,9 +9,8 @@ use Rattle.def_valid.specs.Places.{opcode_at, operand_at, result_at, place_of, f
 use Rattle.def_valid.specs.Sections.{begins_before}
 
 -- The blocks of a selection between its header and its merge block, those of a loop between its
--- header
--- and its continue target, and those from there to its merge block, each told by the place of the
--- merge instruction in the header.
+-- header and its continue target, and those from there to its merge block, each told by the place
+-- of the merge instruction in the header.
 pub data Construct : Type 0 where
   Selection : ℕ → Construct
   Body : ℕ → Construct
@@ -82,9 +81,8 @@ pub record IsInnermostOfLoop (m : Module) (k : ℕ) (c : Construct) : Type 0 whe
   pub last : (other : Construct) → IsOfLoop other → HasConstruct m other → LiesIn m k other
       → begin_of m other ≤ begin_of m c
 
--- What a merge instruction begins nests: its blocks stand in order behind it in its own
--- function, and
--- each construct around it has the merge block too.
+-- What a merge instruction begins nests: its blocks stand in order behind it in its own function,
+-- and each construct around it has the merge block too.
 pub record Nests (m : Module) (h : ℕ) : Type 0 where
   pub merge_behind : h < merge_place m h
   pub same_function : function_at m (merge_place m h) ≡ function_at m h
@@ -106,9 +104,8 @@ IsHeader m h p = p + 1 ≡ block_at m h
 
 -- Where a branch at a place may go: to a later block of exactly the constructs around it that is no
 -- merge block; to the merge block of the innermost construct, if that is a selection; to the merge
--- block or the continue target of the innermost loop, in whose body it stands; from the last
--- block of
--- a continue construct back to the header, or to the merge block.
+-- block or the continue target of the innermost loop, in whose body it stands; from the last block
+-- of a continue construct back to the header, or to the merge block.
 pub data MayGo (m : Module) (k p : ℕ) : Type 0 where
   Later : k < p → function_at m p ≡ function_at m k
       → ((c : Construct) → HasConstruct m c

@@ -118,13 +118,10 @@ mode_numbers m k =
     not (opcode_at m k == op.execution_mode)
     || (operand_at m k 1 == enumerant.local_size && operand_count m k == 5)
 
--- `NonWritable` ("Decoration")
-abbrev pub non_writable : ℕ
-non_writable = 24
-
 -- decorations without a number
 unfoldable pub is_bare_decoration : ℕ → Bool
-is_bare_decoration decoration = decoration == enumerant.block || decoration == non_writable
+is_bare_decoration decoration =
+    decoration == enumerant.block || decoration == enumerant.non_writable
 
 -- decorations with a number, and the one built-in variable
 unfoldable pub is_numbered_decoration : ℕ → ℕ → Bool

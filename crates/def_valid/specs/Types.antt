@@ -210,9 +210,8 @@ member_type m t index =
     then operand_of m t (number + 1)
     else 0
 
--- The type that an index leads to, or 0 where it leads to none: the element of a runtime array
--- or the
--- vector by any integer, the member of a struct by a constant (3, "OpAccessChain").
+-- The type that an index leads to, or 0 where it leads to none: the element of a runtime array or
+-- the vector by any integer, the member of a struct by a constant (3, "OpAccessChain").
 unfoldable pub indexed_type : Module → ℕ → ℕ → ℕ
 indexed_type m t index =
     if not (is_integer_type m (type_of m index)) then 0

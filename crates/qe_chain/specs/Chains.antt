@@ -36,18 +36,21 @@ module _ {K : Type 0} where
     pub within : IsWithin callers p
     pub key : (d : K) → key_at callers p d ≡ k
 
-  -- keys that compare equal are the same key, the keys of all chains differ, and so many are claimed or
-  -- awaited
-  pub record IsApart (cmp : K → K → Ordering) (callers : List (Caller K)) (open_keys : ℕ) : Type 0 where
-    pub one_key : (x y : K) → cmp x y ≡ Equal → x ≡ y
-    pub distinct : AreDistinct (claimed callers)
-    pub few : length callers < 2 ^ 32
-    pub counted : open_keys ≡ open_count callers
+  -- keys that compare equal are the same key, the keys of all chains differ, and so many are
+  -- claimed or awaited
+  pub record IsApart (cmp : K → K → Ordering) (callers : List (Caller K)) (open_keys : ℕ) : Type 0
+    where
+      pub one_key : (x y : K) → cmp x y ≡ Equal → x ≡ y
+      pub distinct : AreDistinct (claimed callers)
+      pub few : length callers < 2 ^ 32
+      pub counted : open_keys ≡ open_count callers
 
 module _ {K : Type 0} (cmp : K → K → Ordering) where
   -- the current need of the key at the place stands at another one, or it has none that is claimed
   abbrev pub GoesOn : List (Caller K) → Place → Option Place → Type 0
   GoesOn callers p to =
       MatchOption to
-      ((k : K) → IsPlace callers k p → (y : K) → need cmp callers k ≡ Some y → owner cmp callers y ≡ None)
-      (λ q. (k : K) → IsPlace callers k p → (y : K) × (need cmp callers k ≡ Some y) × IsPlace callers y q)
+      ((k : K) → IsPlace callers k p → (y : K) → need cmp callers k ≡ Some y
+      → owner cmp callers y ≡ None)
+      (λ q. (k : K) → IsPlace callers k p
+      → (y : K) × (need cmp callers k ≡ Some y) × IsPlace callers y q)

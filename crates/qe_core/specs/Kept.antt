@@ -9,9 +9,10 @@ use Rattle.def_core.specs.declared.event.Event.TheVariants.{Ask}
 use Rattle.def_core.specs.State.{Caller, claimed}
 use Rattle.qe_chain.specs.Chains.{open_count}
 
--- keys that compare equal are the same key, claimed keys are apart from each other and from what is published,
--- and there is room for an answer of each key that is claimed or waited for
-pub record IsKept {K A : Type 0} (cmp : K → K → Ordering) (pairs : List (K × A)) (callers : List (Caller K))
+-- keys that compare equal are the same key, claimed keys are apart from each other and from what is
+-- published, and there is room for an answer of each key that is claimed or waited for
+pub record IsKept {K A : Type 0} (cmp : K → K → Ordering) (pairs : List (K × A))
+    (callers : List (Caller K))
     (spare : ℕ) : Type 0 where
   pub one_key : (x y : K) → cmp x y ≡ Equal → x ≡ y
   pub distinct : AreDistinct (claimed callers)

@@ -20,7 +20,8 @@ module _ {K A : Type 0} (cmp : K → K → Ordering) (r : Meaning K A) where
 
   -- one of the keys leads to each key that is known
   abbrev pub LiesWithin : List (K × A) → List K → Type 0
-  LiesWithin m keys = (k : K) → IsKnown cmp r m k → (x : K) × IsIn x keys × Reaches (Depends cmp r) x k
+  LiesWithin m keys =
+      (k : K) → IsKnown cmp r m k → (x : K) × IsIn x keys × Reaches (Depends cmp r) x k
 
   -- what is known is right, and while memory lasted it is closed under Depends
   pub record IsSound (m : List (K × A)) (failed : Bool) : Type 0 where

@@ -23,7 +23,8 @@ stage_after (Needs y) = Waiting
 stage_after (Done a) = Ended
 
 -- the frames of some rules and behind them that of this key, which is begun
-pub record HasBegun {F K A : Type 0} (is_of : F → Type 0) (stands_for : F → Frame K A) (was : List F) (key : K) (now : List F) : Type 0 where
+pub record HasBegun {F K A : Type 0} (is_of : F → Type 0) (stands_for : F → Frame K A)
+    (was : List F) (key : K) (now : List F) : Type 0 where
   pub frame : F
   pub behind : now ≡ was ++ frame ∷ []
   pub of : is_of frame
@@ -44,22 +45,24 @@ module _ {K A : Type 0} (cmp : K → K → Ordering) (r : Meaning K A) where
   abbrev pub CanResume : Frame K A → List (K × A) → Type 0
   CanResume f m = Resumes f m f.stage
 
-  -- what the body of a key gives that has used some answers and may use those of the map, and what it has used
-  -- then
-  pub record IsWorked (k : K) (m used : List (K × A)) (s : Step K A) (now : List (K × A)) : Type 0 where
-    pub gives : s ≡ r.body k (used ++ m)
-    -- it has used further answers of the map
-    pub further : List (K × A)
-    pub uses : now ≡ used ++ further
-    pub from_map : AllByRecursion (λ p. get cmp m p.0 ≡ Some p.1) further
-    -- what it needs it needs after these
-    pub needs : (y : K) → s ≡ Needs y → r.body k now ≡ Needs y
+  -- what the body of a key gives that has used some answers and may use those of the map, and what
+  -- it has used then
+  pub record IsWorked (k : K) (m used : List (K × A)) (s : Step K A) (now : List (K × A)) : Type 0
+    where
+      pub gives : s ≡ r.body k (used ++ m)
+      -- it has used further answers of the map
+      pub further : List (K × A)
+      pub uses : now ≡ used ++ further
+      pub from_map : AllByRecursion (λ p. get cmp m p.0 ≡ Some p.1) further
+      -- what it needs it needs after these
+      pub needs : (y : K) → s ≡ Needs y → r.body k now ≡ Needs y
 
   -- what a frame gives where it may use the answers of the map, and what it stands for then
-  pub record IsResumed (f : Frame K A) (m : List (K × A)) (s : Step K A) (g : Frame K A) : Type 0 where
-    pub key : g.key ≡ f.key
-    pub stage : g.stage ≡ stage_after s
-    pub worked : IsWorked f.key m f.read s g.read
+  pub record IsResumed (f : Frame K A) (m : List (K × A)) (s : Step K A) (g : Frame K A) : Type 0
+    where
+      pub key : g.key ≡ f.key
+      pub stage : g.stage ≡ stage_after s
+      pub worked : IsWorked f.key m f.read s g.read
 
   -- the frame needs the key
   pub record WaitsFor (f : Frame K A) (y : K) : Type 0 where
@@ -76,10 +79,12 @@ module _ {K A : Type 0} (cmp : K → K → Ordering) (r : Meaning K A) where
   AreWaiting [] y = Unit {0}
   AreWaiting (f ∷ fs) y = WaitsFor f (key_of_first fs y) × AreWaiting fs y
 
-  -- the frames of the keys: they have used what the map has, each but the last needs the key of the next, and
-  -- the last can be resumed
+  -- the frames of the keys: they have used what the map has, each but the last needs the key of the
+  -- next, and the last can be resumed
   pub record IsStack (m : List (K × A)) (frames : List (Frame K A)) (keys : List K) : Type 0 where
     pub keys_of : map (λ (f : Frame K A). f.key) frames ≡ keys
     pub within : AllByRecursion (λ f. IsWithin cmp f.read m) frames
-    pub waiting : (before : List (Frame K A)) (top : Frame K A) → frames ≡ before ++ top ∷ [] → AreWaiting before top.key
-    pub resumes : (before : List (Frame K A)) (top : Frame K A) → frames ≡ before ++ top ∷ [] → CanResume top m
+    pub waiting : (before : List (Frame K A)) (top : Frame K A) → frames ≡ before ++ top ∷ []
+        → AreWaiting before top.key
+    pub resumes : (before : List (Frame K A)) (top : Frame K A) → frames ≡ before ++ top ∷ []
+        → CanResume top m

@@ -19,7 +19,8 @@ pub record IsTurned {K : Type 0} (cmp : K → K → Ordering) (keys turned : Lis
   pub is : turned ≡ drop at keys ++ take at keys
 
 -- the last key of the chain leaves it, and its answer is known
-pub record IsTaken {K A : Type 0} (cmp : K → K → Ordering) (m : List (K × A)) (chain : List K) (n : List (K × A)) (next : List K) (answer : A) : Type 0 where
+pub record IsTaken {K A : Type 0} (cmp : K → K → Ordering) (m : List (K × A)) (chain : List K)
+    (n : List (K × A)) (next : List K) (answer : A) : Type 0 where
   pub top : K
   pub was : chain ≡ next ++ top ∷ []
   pub gains : IsSameMap cmp n ((top, answer) ∷ m)
@@ -45,7 +46,8 @@ module _ {K A : Type 0} (cmp : K → K → Ordering) (r : Meaning K A) where
     pub unknown : (k : K) → IsIn k chain → get cmp m k ≡ None
 
   -- the last key of the chain depends on a new one, which becomes the last
-  pub record IsPushed (m : List (K × A)) (chain : List K) (n : List (K × A)) (next : List K) : Type 0 where
+  pub record IsPushed (m : List (K × A)) (chain : List K) (n : List (K × A))
+      (next : List K) : Type 0 where
     pub before : List K
     pub top : K
     pub need : K
@@ -57,11 +59,12 @@ module _ {K A : Type 0} (cmp : K → K → Ordering) (r : Meaning K A) where
     pub same : n ≡ m
 
   -- the last key of the chain has its answer, and what it depends on is known or in the chain
-  pub record IsPut (m : List (K × A)) (chain : List K) (n : List (K × A)) (next : List K) : Type 0 where
-    pub answer : A
-    pub taken : IsTaken cmp m chain n next answer
-    pub answers : Answers cmp r taken.top answer
-    pub around : (y : K) → Depends cmp r taken.top y → IsKnown n y ⊎ IsIn y next
+  pub record IsPut (m : List (K × A)) (chain : List K) (n : List (K × A)) (next : List K) : Type 0
+    where
+      pub answer : A
+      pub taken : IsTaken cmp m chain n next answer
+      pub answers : Answers cmp r taken.top answer
+      pub around : (y : K) → Depends cmp r taken.top y → IsKnown n y ⊎ IsIn y next
 
   abbrev pub Advances : List (K × A) → List K → List (K × A) → List K → Type 0
   Advances m chain n next = IsPushed m chain n next ⊎ IsPut m chain n next
@@ -74,7 +77,8 @@ module _ {K A : Type 0} (cmp : K → K → Ordering) (r : Meaning K A) where
     -- the key is known, or the chain begins with it
     pub begun : ((chain ≡ []) × IsKnown n key) ⊎ ((behind : List K) × (chain ≡ key ∷ behind))
     pub gained : GainsWithin key m n
-    pub around : (k y : K) → IsKnown n k → get cmp m k ≡ None → Depends cmp r k y → IsKnown n y ⊎ IsIn y chain
+    pub around : (k y : K) → IsKnown n k → get cmp m k ≡ None → Depends cmp r k y
+        → IsKnown n y ⊎ IsIn y chain
     -- the keys within the bound that are neither known nor in the chain
     pub rest : List K
     pub left : (k : K) → IsIn k (r.bound key) → get cmp n k ≡ None → ¬ IsIn k chain → IsIn k rest

@@ -33,4 +33,5 @@ Best costs (Tie first second) = (first < second) × IsUnbeaten costs first × Is
 
 -- of the same lists the same is picked
 abbrev pub BestIsDetermined : Type 0
-BestIsDetermined = (costs : List (List ℕ)) (one other : Picked) → Best costs one → Best costs other → one ≡ other
+BestIsDetermined =
+    (costs : List (List ℕ)) (one other : Picked) → Best costs one → Best costs other → one ≡ other

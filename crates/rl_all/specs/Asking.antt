@@ -32,13 +32,15 @@ WorksWithin keeps_to before after keys =
     (others : List Key) → keeps_to before others → keeps_to after (others ++ keys)
 
 -- Keys were asked, at most these: the subject stayed, and each step was counted.
-pub record Asks {S : Type 0} (subject : S → Sources) (worked : S → ℕ) (keeps_to : S → List Key → Type 0)
+pub record Asks {S : Type 0} (subject : S → Sources) (worked : S → ℕ)
+    (keeps_to : S → List Key → Type 0)
     (before after : S) (counted counts : ℕ) (keys : List Key) : Type 0 where
   pub same : subject after ≡ subject before
   pub steps : counts + worked before ≡ counted + worked after
   pub within : WorksWithin keeps_to before after keys
 
 -- all these keys were asked
-pub record Gains {S : Type 0} (has : S → Key → Type 0) (before after : S) (keys : List Key) : Type 0 where
-  pub has_all : HasAll has after keys
-  pub kept : Keeps has before after
+pub record Gains {S : Type 0} (has : S → Key → Type 0) (before after : S) (keys : List Key) : Type 0
+  where
+    pub has_all : HasAll has after keys
+    pub kept : Keeps has before after

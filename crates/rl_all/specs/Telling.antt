@@ -26,4 +26,5 @@ CanBeTold (Failed told) = All HasText told
 -- the place of the name of a key's declaration, where this is the syntax of its module
 abbrev pub place_in : Answer → Key → Place
 place_in syntax key =
-    option_map_or place_of (option_and_then name_of (declared_at (declarations_in syntax) (parts_of key))) first_place
+    option_map_or place_of (option_and_then name_of
+    (declared_at (declarations_in syntax) (parts_of key))) first_place

@@ -6,7 +6,8 @@ use Rattle.def_reading.specs.TypeAhead.{LookAhead, Found, Missing, path_ahead, t
 use Rattle.sl_cursor.specs.declared.ends.End.{End}
 use Rattle.sl_cursor.specs.declared.ends.Ends.{Ends}
 
--- whether something is found, how many tokens stand before the place where the look ends, and those from it on
+-- whether something is found, how many tokens stand before the place where the look ends, and those
+-- from it on
 abbrev pub Ending : Type 0
 Ending = Bool × ℕ × List Token
 
@@ -25,7 +26,8 @@ end_in end at tokens = (end.found, at + end.many, drop end.many tokens)
 
 -- names behind dots end so
 abbrev pub PathEnds : End → List Token → Type 0
-PathEnds end tokens = (at : ℕ) (limit : Option Told) → ending_of (path_ahead at limit tokens) ≡ end_in end at tokens
+PathEnds end tokens =
+    (at : ℕ) (limit : Option Told) → ending_of (path_ahead at limit tokens) ≡ end_in end at tokens
 
 -- a type ends so
 abbrev pub TypeEnds : End → List Token → Type 0
@@ -51,4 +53,5 @@ pub record AreEnds (ends : Ends) (tokens : List Token) : Type 0 where
 -- a table has what is right for the last so many tokens, for each number up to its length
 abbrev pub IsTable : List Token → List Ends → Type 0
 IsTable tokens table =
-    (left : ℕ) (ends : Ends) → slice_get table left ≡ Some ends → AreEnds ends (drop (length tokens - left) tokens)
+    (left : ℕ) (ends : Ends) → slice_get table left ≡ Some ends
+    → AreEnds ends (drop (length tokens - left) tokens)

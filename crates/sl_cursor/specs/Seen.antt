@@ -15,7 +15,8 @@ told_in source told = record { at = told.at; token = token_in source told.token;
 
 -- a place
 abbrev pub place_in : List ℕ → Cursor → lists.Cursor
-place_in source place = lists.At place.at (option_map (told_in source) place.limit) (tokens_in source place.rest.now)
+place_in source place =
+    lists.At place.at (option_map (told_in source) place.limit) (tokens_in source place.rest.now)
 
 -- how far tokens are read
 abbrev pub reach_in : List ℕ → FarthestFailure → lists.FarthestFailure

@@ -22,19 +22,25 @@ pub record IsIn (source : Source) (place : Cursor) : Type 0 where
 -- what a reader on lists comes to, here
 abbrev pub on_lists : {B : Type 0} → Source → lists.Reader B → Here → lists.Try B
 on_lists source reader here =
-    reader (option_map (reach_in source.bytes.now) here.reach) (place_in source.bytes.now here.place)
+    reader (option_map (reach_in source.bytes.now) here.reach)
+    (place_in source.bytes.now here.place)
 
--- A tree is read where the reader on lists reads one, and it is the same where no limit ends on the way.
-pub record IsTried {A B : Type 0} (source : Source) (view : A → B) (reader : lists.Reader B) (from : Here) (read : A) (to : Here) : Type 0 where
+-- A tree is read where the reader on lists reads one, and it is the same where no limit ends on the
+-- way.
+pub record IsTried {A B : Type 0} (source : Source) (view : A → B) (reader : lists.Reader B)
+    (from : Here) (read : A) (to : Here) : Type 0 where
   pub tree : B
   pub is : on_lists source reader from
-      ≡ lists.Reads tree (place_in source.bytes.now to.place) (option_map (reach_in source.bytes.now) to.reach)
+      ≡ lists.Reads tree (place_in source.bytes.now to.place)
+      (option_map (reach_in source.bytes.now) to.reach)
   pub same : to.place.limit ≡ None → tree ≡ view read
   pub rises : to.place.limit ≡ None → from.place.limit ≡ None
   pub stands : IsIn source to.place
 
--- what is read, if memory did not run out; types and expressions are read to their ends, whatever their limits
-abbrev pub Tries : {A B : Type 0} → Source → (A → B) → lists.Reader B → Here → Result (A × Here) Unread → Type 0
+-- what is read, if memory did not run out; types and expressions are read to their ends, whatever
+-- their limits
+abbrev pub Tries : {A B : Type 0} → Source → (A → B) → lists.Reader B → Here
+    → Result (A × Here) Unread → Type 0
 Tries source view reader from (Ok found) = IsTried source view reader from found.0 found.1
 Tries source view reader from (Err (unread.Refused reach)) =
     on_lists source reader from ≡ lists.Stops (option_map (reach_in source.bytes.now) reach)
@@ -42,7 +48,8 @@ Tries source view reader from (Err (unread.Deep told)) = ⊥
 Tries source view reader from (Err unread.NoMemory) = Unit {0}
 
 -- an expression that is read is a call where it is one on lists
-abbrev pub IsCallToo : Source → lists.Reader trees.ExprTree → Here → Result (ExprTree × Here) Unread → Type 0
+abbrev pub IsCallToo : Source → lists.Reader trees.ExprTree → Here → Result (ExprTree × Here) Unread
+    → Type 0
 IsCallToo source reader from (Ok found) =
     (tree : trees.ExprTree) (place : places.Cursor) (reach : Option places.FarthestFailure)
     → on_lists source reader from ≡ lists.Reads tree place reach

@@ -23,29 +23,37 @@ use Rattle.sl_cursor.specs.declared.source.Unread.{Unread}
 use Rattle.sl_cursor.specs.declared.source.Unread.TheVariants as unread
 
 -- what a form without statements comes to, whose trees a source gives a meaning
-abbrev pub FollowsForm : {A B : Type 0} → Source → (List ℕ → A → B) → Form B → Here → Result (A × Here) Unread → Type 0
-FollowsForm source view form from result = Follows source (view source.bytes.now) (reads form) from result
+abbrev pub FollowsForm : {A B : Type 0} → Source → (List ℕ → A → B) → Form B → Here
+    → Result (A × Here) Unread → Type 0
+FollowsForm source view form from result =
+    Follows source (view source.bytes.now) (reads form) from result
 
 -- what a form with statements comes to
-abbrev pub SettlesForm : {A B : Type 0} → Source → (List ℕ → A → B) → Form B → Here → Result (A × Here) Unread → Type 0
-SettlesForm source view form from result = Settles source (view source.bytes.now) (reads form) from result
+abbrev pub SettlesForm : {A B : Type 0} → Source → (List ℕ → A → B) → Form B → Here
+    → Result (A × Here) Unread → Type 0
+SettlesForm source view form from result =
+    Settles source (view source.bytes.now) (reads form) from result
 
 -- this is what lists have of what is read before a place
 abbrev pub IsGiven : {B : Type 0} → Here → B → B → Type 0
 IsGiven here read tree = here.place.limit ≡ None → tree ≡ read
 
 -- what is read consists of tokens alone, and is what lists have, whatever limits end on the way
-pub record IsTaken {A B : Type 0} (source : Source) (view : A → B) (reader : lists.Reader B) (from : Here) (read : A)
+pub record IsTaken {A B : Type 0} (source : Source) (view : A → B) (reader : lists.Reader B)
+    (from : Here) (read : A)
     (to : Here) : Type 0 where
   pub is : on_lists source reader from
-      ≡ lists.Reads (view read) (place_in source.bytes.now to.place) (option_map (reach_in source.bytes.now) to.reach)
+      ≡ lists.Reads (view read) (place_in source.bytes.now to.place)
+      (option_map (reach_in source.bytes.now) to.reach)
   pub rises : to.place.limit ≡ None → from.place.limit ≡ None
   pub on : from.place.at ≤ to.place.at
   pub behind : IsAt source to.place
 
 -- what a form of tokens alone comes to
-abbrev pub TakesForm : {A B : Type 0} → Source → (List ℕ → A → B) → Form B → Here → Result (A × Here) Unread → Type 0
-TakesForm source view form from (Ok found) = IsTaken source (view source.bytes.now) (reads form) from found.0 found.1
+abbrev pub TakesForm : {A B : Type 0} → Source → (List ℕ → A → B) → Form B → Here
+    → Result (A × Here) Unread → Type 0
+TakesForm source view form from (Ok found) =
+    IsTaken source (view source.bytes.now) (reads form) from found.0 found.1
 TakesForm source view form from (Err (unread.Refused reach)) =
     on_lists source (reads form) from ≡ lists.Stops (option_map (reach_in source.bytes.now) reach)
 TakesForm source view form from (Err (unread.Deep told)) = ⊥
@@ -59,7 +67,8 @@ maybe_text text =
 
 -- the word of a kind of buffers
 abbrev pub IsKind : Source → Here → BufferKind → Token → Here → Type 0
-IsKind source from buffer.ReadOnly token to = IsPassed source (is_sign "StructuredBuffer") plain from token to
+IsKind source from buffer.ReadOnly token to =
+    IsPassed source (is_sign "StructuredBuffer") plain from token to
 IsKind source from buffer.ReadWrite token to =
     (passes (is_sign "StructuredBuffer") (tokens_in source.bytes.now from.place.rest.now) ≡ false)
     × IsPassed source (is_sign "RWStructuredBuffer") plain from token to
@@ -69,7 +78,8 @@ abbrev pub IsKinds : Source → Here → Option (BufferKind × Token × Here) �
 IsKinds source from (Some found) = IsKind source from found.0 found.1 found.2
 IsKinds source from None =
     (passes (is_sign "StructuredBuffer") (tokens_in source.bytes.now from.place.rest.now) ≡ false)
-    × (passes (is_sign "RWStructuredBuffer") (tokens_in source.bytes.now from.place.rest.now) ≡ false)
+    × (passes (is_sign "RWStructuredBuffer") (tokens_in source.bytes.now from.place.rest.now)
+    ≡ false)
 
 -- so few forms are open
 pub record AreFew (many : ℕ) (around : Nesting) : Type 0 where

@@ -7,7 +7,8 @@ use Rattle.def_decl_reading.specs.Form.{Form, As}
 use Rattle.def_decl_reading.specs.MemberReading.{block_form}
 
 -- a method behind its tail
-abbrev pub bodied_form : Nesting → Option Token → Option AccessTree → Option Token → TailTree → Form MethodTree
+abbrev pub bodied_form : Nesting → Option Token → Option AccessTree → Option Token → TailTree
+    → Form MethodTree
 bodied_form around mutating access override tail =
     As (λ body. record {
       mutating = mutating;

@@ -31,7 +31,8 @@ bracketed_form around opening =
 
 -- a module with the end
 abbrev pub ReadsModule : Source → Here → Result (ModuleTree × Here) Unread → Type 0
-ReadsModule source from result = Settles source (module_in source.bytes.now) reading.module_in from result
+ReadsModule source from result =
+    Settles source (module_in source.bytes.now) reading.module_in from result
 
 -- the place stands behind the end
 pub record IsBehindEnd (source : Source) (here : Here) : Type 0 where

@@ -5,8 +5,8 @@ use Rattle.sl_io.specs.Faults.{one_more}
 use Rattle.sl_io.specs.declared.sink.Took.{Took}
 use Rattle.sl_io.specs.declared.sink.Took.TheVariants.{Bytes, Failed}
 
--- the bytes that were written, how many more have room, the most that one write takes, the numbers of
--- the writes that fail, and how many writes and faults there were; writes are counted from 1
+-- the bytes that were written, how many more have room, the most that one write takes, the numbers
+-- of the writes that fail, and how many writes and faults there were; writes are counted from 1
 pub record SinkState : Type 0 where
   pub held : List ℕ
   pub room : ℕ

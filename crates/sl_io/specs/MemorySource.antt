@@ -5,8 +5,8 @@ use Rattle.sl_io.specs.Faults.{one_more}
 use Rattle.sl_io.specs.declared.source.Got.{Got}
 use Rattle.sl_io.specs.declared.source.Got.TheVariants.{Bytes, End, Failed}
 
--- the bytes that are left, the most that one read gives, the numbers of the reads that fail, and how
--- many reads and faults there were; reads are counted from 1
+-- the bytes that are left, the most that one read gives, the numbers of the reads that fail, and
+-- how many reads and faults there were; reads are counted from 1
 pub record SourceState : Type 0 where
   pub rest : List ℕ
   pub piece : ℕ

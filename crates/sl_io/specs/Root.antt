@@ -10,8 +10,8 @@ bytes_of files name =
     let named : List ℕ × List ℕ → Bool = λ file. bytes_eq file.0 name in
     option_map (λ (file : List ℕ × List ℕ). file.1) (find named files)
 
--- What an answer says of a name's bytes among the modules, where the root tells them. Bytes that are
--- found are at most `max`, also where it does not.
+-- What an answer says of a name's bytes among the modules, where the root tells them. Bytes that
+-- are found are at most `max`, also where it does not.
 abbrev pub Fetches : Fetched → ℕ → List ℕ → Option (List (List ℕ × List ℕ)) → Type 0
 Fetches (Found bytes) max name told =
     (length bytes ≤ max) × IfSome told (λ files. bytes_of files name ≡ Some bytes)

@@ -20,8 +20,8 @@ use Rattle.sl_key.specs.declared.value.Value.{Value as Number}
 abbrev pub Facts : Type 0
 Facts = List (Key × Answer)
 
--- what a part of a definition comes to: a key that it uses first and that has no answer, the answer of the
--- key that is worked out, whatever follows, or its value
+-- what a part of a definition comes to: a key that it uses first and that has no answer, the answer
+-- of the key that is worked out, whatever follows, or its value
 pub data Flow (A : Type 0) : Type 0 where
   Needs : Key → Flow A
   Stop : Answer → Flow A
@@ -44,8 +44,8 @@ abbrev pub Tells : {A : Type 0} → Result A Early → Flow A → Type 0
 Tells (Ok value) flow = flow ≡ Value value
 Tells (Err early) flow = EndsEarly early flow
 
--- what the good answer of a key of each kind holds: a module's text of which nothing is told, the modules
--- that a module sees, a type, a value
+-- what the good answer of a key of each kind holds: a module's text of which nothing is told, the
+-- modules that a module sees, a type, a value
 abbrev pub Holds : Kind → Type 0
 Holds Syntax = List ℕ
 Holds Imports = List (List ℕ)
@@ -67,8 +67,8 @@ held_as Alias (held.Alias type) = Some type
 held_as Const (held.Const value) = Some value
 held_as _ _ = None
 
--- The use of a key. One that is at fault spoils what uses it, one that is spoilt hands its culprit on, and
--- a circular one its cycle.
+-- The use of a key. One that is at fault spoils what uses it, one that is spoilt hands its culprit
+-- on, and a circular one its cycle.
 abbrev pub used_by : Key → Option Answer → Flow Held
 used_by key None = Needs key
 used_by key (Some (Good value)) = Value value
@@ -84,7 +84,8 @@ or_spoiled key None = Stop (Spoiled key)
 -- the use of a key under these answers, and what it holds
 abbrev pub used : Facts → (key : Key) → Flow (Holds key.kind)
 used facts key =
-    and_then (used_by key (get key_cmp facts key)) (λ value. or_spoiled key (held_as key.kind value))
+    and_then (used_by key (get key_cmp facts key))
+    (λ value. or_spoiled key (held_as key.kind value))
 
 -- what a definition gives whose parts come to this
 abbrev pub finished : Flow Held → Step Key Answer

@@ -39,14 +39,18 @@ abbrev pub limit_of : {A : Type 0} → ahead.LookAhead A → Option Told
 limit_of (ahead.Found found place) = limit_at place
 limit_of (ahead.Missing place) = limit_at place
 
--- a look that begins at a place is what the function on lists gives in enough turns, and no limit ends on its way
-pub record IsLook {A B : Type 0} (source : List ℕ) (view : A → B) (on_lists : ℕ → ahead.LookAhead B) (least : ℕ) (from : Cursor) (looked : LookAhead A) : Type 0 where
+-- a look that begins at a place is what the function on lists gives in enough turns, and no limit
+-- ends on its way
+pub record IsLook {A B : Type 0} (source : List ℕ) (view : A → B) (on_lists : ℕ → ahead.LookAhead B)
+    (least : ℕ) (from : Cursor) (looked : LookAhead A) : Type 0 where
   pub is : (turns : ℕ) → least < turns → on_lists turns ≡ look_in source view looked
   pub free : (place_of looked).limit ≡ from.limit
   pub fewer : length (place_of looked).rest.now ≤ length from.rest.now
 
--- a reader gave what the function on lists gives, or stopped at the first limit on the way, if memory did not run out
-abbrev pub Reads : {A B : Type 0} → List ℕ → (A → B) → (ℕ → ahead.LookAhead B) → ℕ → Cursor → Result (LookAhead A) Stop → Type 0
+-- a reader gave what the function on lists gives, or stopped at the first limit on the way, if
+-- memory did not run out
+abbrev pub Reads : {A B : Type 0} → List ℕ → (A → B) → (ℕ → ahead.LookAhead B) → ℕ → Cursor
+    → Result (LookAhead A) Stop → Type 0
 Reads source view on_lists least from (Ok looked) = IsLook source view on_lists least from looked
 Reads source view on_lists least from (Err (stop.Deep told)) =
     (turns : ℕ) → least < turns → limit_of (on_lists turns) ≡ Some (told_in source told)
@@ -73,17 +77,20 @@ IsOpened source types from (Err stop.NoMemory) = ⊥
 -- a type that a name begins, by the place behind it, with its own among so many open types
 abbrev pub type_named : ℕ → ℕ → lexical.Token → lists.Cursor → ahead.LookAhead trees.TypeTree
 type_named turns types first place =
-    found_then (λ args after. found_as (trees.Named first args) (path_from after)) (args_at (list_ahead turns types) place)
+    found_then (λ args after. found_as (trees.Named first args) (path_from after))
+    (args_at (list_ahead turns types) place)
 
 -- the names behind dots, if memory did not run out
 abbrev pub IsPath : List ℕ → Cursor → Result (LookAhead (List Token)) Stop → Type 0
-IsPath source from (Ok looked) = IsLook source (map (token_in source)) (λ turns. path_from (place_in source from)) 0 from looked
+IsPath source from (Ok looked) =
+    IsLook source (map (token_in source)) (λ turns. path_from (place_in source from)) 0 from looked
 IsPath source from (Err (stop.Deep told)) = ⊥
 IsPath source from (Err stop.NoMemory) = Unit {0}
 
 -- a name behind a dot, and fewer tokens behind it
 pub record IsName (source : List ℕ) (from : Cursor) (name : Token) (behind : Cursor) : Type 0 where
-  pub path : path_from (place_in source from) ≡ found_as (λ path. token_in source name ∷ path) (path_from (place_in source behind))
+  pub path : path_from (place_in source from)
+      ≡ found_as (λ path. token_in source name ∷ path) (path_from (place_in source behind))
   pub free : behind.limit ≡ from.limit
   pub fewer : length behind.rest.now < length from.rest.now
 
@@ -95,7 +102,8 @@ pub record IsNoName (source : List ℕ) (from behind : Cursor) : Type 0 where
 
 -- what stands behind a name
 abbrev pub IsNext : List ℕ → Cursor → Next → Type 0
-IsNext source from next.Nothing = path_from (place_in source from) ≡ ahead.Found [] (place_in source from)
+IsNext source from next.Nothing =
+    path_from (place_in source from) ≡ ahead.Found [] (place_in source from)
 IsNext source from (next.Name name behind) = IsName source from name behind
 IsNext source from (next.Unexpected behind) = IsNoName source from behind
 
@@ -106,14 +114,16 @@ Onward = lists.Cursor → ahead.LookAhead trees.TypeTrees
 -- a comma, and fewer tokens behind it
 pub record IsComma (source : List ℕ) (from behind : Cursor) : Type 0 where
   pub list : (more : Onward) (type : trees.TypeTree)
-      → list_behind more type (place_in source from) ≡ found_as (trees.MoreTypes type) (more (place_in source behind))
+      → list_behind more type (place_in source from)
+      ≡ found_as (trees.MoreTypes type) (more (place_in source behind))
   pub free : behind.limit ≡ from.limit
   pub fewer : length behind.rest.now < length from.rest.now
 
 -- the mark that closes a list, and fewer tokens behind it
 pub record Closes (source : List ℕ) (from behind : Cursor) : Type 0 where
   pub list : (more : Onward) (type : trees.TypeTree)
-      → list_behind more type (place_in source from) ≡ ahead.Found (trees.MoreTypes type trees.NoTypes) (place_in source behind)
+      → list_behind more type (place_in source from)
+      ≡ ahead.Found (trees.MoreTypes type trees.NoTypes) (place_in source behind)
   pub free : behind.limit ≡ from.limit
   pub fewer : length behind.rest.now < length from.rest.now
 
@@ -122,4 +132,5 @@ abbrev pub IsMark : List ℕ → Cursor → Mark → Type 0
 IsMark source from (mark.Comma behind) = IsComma source from behind
 IsMark source from (mark.Closing behind) = Closes source from behind
 IsMark source from mark.Neither =
-    (more : Onward) (type : trees.TypeTree) → list_behind more type (place_in source from) ≡ ahead.Missing (place_in source from)
+    (more : Onward) (type : trees.TypeTree)
+    → list_behind more type (place_in source from) ≡ ahead.Missing (place_in source from)

@@ -6,8 +6,10 @@ use Rattle.sl_cursor.specs.declared.cursor.Cursor.{Cursor}
 use Rattle.sl_look.specs.declared.types.LookAhead.{LookAhead}
 use Rattle.sl_look.specs.declared.types.LookAhead.TheVariants as look
 
--- something is found behind which this place stands, and it is what is found here, where no limit ends on the way
-pub record IsFound {A B : Type 0} (source : List ℕ) (view : A → B) (on_lists : ahead.LookAhead B) (found : A) (place : Cursor) : Type 0 where
+-- something is found behind which this place stands, and it is what is found here, where no limit
+-- ends on the way
+pub record IsFound {A B : Type 0} (source : List ℕ) (view : A → B) (on_lists : ahead.LookAhead B)
+    (found : A) (place : Cursor) : Type 0 where
   pub tree : B
   pub is : on_lists ≡ ahead.Found tree (place_in source place)
   pub same : place.limit ≡ None → tree ≡ view found
@@ -15,4 +17,5 @@ pub record IsFound {A B : Type 0} (source : List ℕ) (view : A → B) (on_lists
 -- a look ends where it does on lists, and finds the same, where no limit ends on the way
 abbrev pub IsLooked : {A B : Type 0} → List ℕ → (A → B) → ahead.LookAhead B → LookAhead A → Type 0
 IsLooked source view on_lists (look.Found found place) = IsFound source view on_lists found place
-IsLooked source view on_lists (look.Missing place) = on_lists ≡ ahead.Missing (place_in source place)
+IsLooked source view on_lists (look.Missing place) =
+    on_lists ≡ ahead.Missing (place_in source place)

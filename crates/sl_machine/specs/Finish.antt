@@ -17,7 +17,8 @@ stuck tokens place = refused_by (bytes_eq (sign_at tokens).0 (codes ">>=")) plac
 abbrev pub closed : Frame → ExprTree → Option ExprTree
 closed (InGroup opening) last = Some (tree.Group opening last)
 closed (InFunctionalCast word token) last = Some (tree.FunctionalCast word token last)
-closed (InCall callee opening args) last = Some (tree.Call callee opening (exprs_of (args ++ last ∷ [])))
+closed (InCall callee opening args) last =
+    Some (tree.Call callee opening (exprs_of (args ++ last ∷ [])))
 closed _ last = None
 
 -- what `]` ends behind a last part

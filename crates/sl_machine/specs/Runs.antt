@@ -22,17 +22,25 @@ use Rattle.sl_cursor.specs.declared.source.Unread.TheVariants as unread
 -- the machine on lists, where it has come here
 abbrev pub config_in : List ℕ → List Frame → Mode → Cursor → machine.Config
 config_in source frames mode place =
-    record { frames = frames_in source frames; mode = mode_in source mode; place = place_in source place }
+    record {
+      frames = frames_in source frames;
+      mode = mode_in source mode;
+      place = place_in source place;
+    }
 
 -- no limit ends before a place, that of an expression's length among them
 abbrev pub IsWithinLimits : Option places.Told → places.Cursor → Type 0
 IsWithinLimits long (places.At at limit tokens) = earlier limit (before at long) ≡ None
 
 -- what is read at the end of an expression, as it is on lists, behind this place
-abbrev pub IsEnd : Source → Cursor → lists.Try trees.ExprTree → Result (ExprTree × Here) Unread → Type 0
+abbrev pub IsEnd : Source → Cursor → lists.Try trees.ExprTree → Result (ExprTree × Here) Unread
+    → Type 0
 IsEnd source place given (Ok found) =
-    (given ≡ lists.Reads (expr_in source.bytes.now found.0) (place_in source.bytes.now found.1.place) (option_map (reach_in source.bytes.now) found.1.reach))
+    (given ≡ lists.Reads (expr_in source.bytes.now found.0)
+    (place_in source.bytes.now found.1.place)
+    (option_map (reach_in source.bytes.now) found.1.reach))
     × (found.1.place.at ≡ place.at) × (found.1.place.rest.now ≡ place.rest.now)
-IsEnd source place given (Err (unread.Refused reach)) = given ≡ lists.Stops (option_map (reach_in source.bytes.now) reach)
+IsEnd source place given (Err (unread.Refused reach)) =
+    given ≡ lists.Stops (option_map (reach_in source.bytes.now) reach)
 IsEnd source place given (Err (unread.Deep told)) = ⊥
 IsEnd source place given (Err unread.NoMemory) = ⊥

@@ -40,5 +40,6 @@ abbrev pub with_text : {A : Type 0} → (A → String) → A → List ℕ × A
 with_text text_of a = (codes (text_of a), a)
 
 -- the rows are those of a table on lists
-abbrev pub AreRows : {T A : Type 0} → (T → A) → (A → String) → List A → List (Bor (List ℕ) × T) → Type 0
+abbrev pub AreRows : {T A : Type 0} → (T → A) → (A → String) → List A → List (Bor (List ℕ) × T)
+    → Type 0
 AreRows view text_of table rows = map (row_in view) rows ≡ map (with_text text_of) table

@@ -16,10 +16,11 @@ use Rattle.sl_roots.specs.declared.refusal.LoadRefusal.TheVariants.{Fault, Modul
 abbrev pub sources_of : SourceSet → Sources
 sources_of set = record { modules = set.modules; absent = set.absent }
 
--- Sources are gathered from the roots `before` for these names, and the roots are then as in the last
--- place. Each name is taken once, in the order of first mention, and the roots are asked for it as the
--- fetches for the names before it left them.
-pub data Gathers (names : List (List ℕ)) (before : List RootState) : Sources → List RootState → Type 0 where
+-- Sources are gathered from the roots `before` for these names, and the roots are then as in the
+-- last place. Each name is taken once, in the order of first mention, and the roots are asked for
+-- it as the fetches for the names before it left them.
+pub data Gathers (names : List (List ℕ)) (before : List RootState) : Sources → List RootState
+    → Type 0 where
   begins : Gathers names before nothing before
   finds : (sources : Sources) (roots after : List RootState) (name bytes : List ℕ) (asked : ℕ)
       → Gathers names before sources roots
@@ -33,7 +34,8 @@ pub data Gathers (names : List (List ℕ)) (before : List RootState) : Sources �
       → Gathers names before (gained sources name None) after
 
 -- the sources are all that was gathered, and the limit on their number is kept
-pub record Loads (names : List (List ℕ)) (sources : Sources) (before after : List RootState) : Type 0 where
+pub record Loads (names : List (List ℕ)) (sources : Sources)
+    (before after : List RootState) : Type 0 where
   pub gathers : Gathers names before sources after
   pub ended : next_name names sources ≡ None
   pub few : length sources.modules ≤ most_modules
@@ -84,7 +86,8 @@ ShowsFault TooManyModules before after = ⊤
 ShowsFault NoMemory before after = ⊤
 
 -- What a refusal says of the maps of roots that tell them and are steady: the walk over them takes
--- the name of a fault, and no map before that root's has it; and a limit is one that the walk meets.
+-- the name of a fault, and no map before that root's has it; and a limit is one that the walk
+-- meets.
 abbrev pub RefusesTold : LoadRefusal → List (List ℕ) → List (List (List ℕ × List ℕ)) → Type 0
 RefusesTold (Fault root name) names maps =
     Takes maps names name × (bytes_in (take (root - 1) maps) name ≡ None)

@@ -6,8 +6,8 @@ use Rattle.sl_io.specs.Root.{Fetches}
 use Rattle.sl_io.specs.declared.root.Fetched.{Fetched}
 use Rattle.sl_io.specs.declared.root.Fetched.TheVariants.{Absent, Failed}
 
--- a root: the modules that it holds, where it tells them, whether no fetch changes them, and how many
--- faults there were
+-- a root: the modules that it holds, where it tells them, whether no fetch changes them, and how
+-- many faults there were
 pub record RootState : Type 0 where
   pub files : Option (List (List ℕ × List ℕ))
   pub steady : Bool
@@ -25,8 +25,8 @@ Tell (root ∷ roots) [] = ⊥
 Tell (root ∷ roots) (files ∷ maps) =
     (root.files ≡ Some files) × IsTrue root.steady × Tell roots maps
 
--- What fetches may do to a root: its count of faults does not fall, it stays as steady as it was, and
--- where it is steady it holds what it held.
+-- What fetches may do to a root: its count of faults does not fall, it stays as steady as it was,
+-- and where it is steady it holds what it held.
 pub record Keeps (before after : RootState) : Type 0 where
   pub never_falls : before.faults ≤ after.faults
   pub as_steady : after.steady ≡ before.steady

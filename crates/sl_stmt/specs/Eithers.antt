@@ -46,8 +46,10 @@ else_by true around reach place = Stops reach
 else_by false around reach place = reading.simple_up_to ASimple around reach place
 
 -- what stands at a place where no local does, with the ways of one
-abbrev pub IsOtherwise : Source → Nesting → Option FarthestFailure → Here → Result (Either × Here) Unread → Type 0
+abbrev pub IsOtherwise : Source → Nesting → Option FarthestFailure → Here
+    → Result (Either × Here) Unread → Type 0
 IsOtherwise source around reach from result =
     Follows source (either_in source.bytes.now)
-    (λ other place. else_by (reading.declares around place) around (option_map (reach_in source.bytes.now) reach) place)
+    (λ other place. else_by (reading.declares around place) around
+    (option_map (reach_in source.bytes.now) reach) place)
     from result

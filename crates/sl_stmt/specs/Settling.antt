@@ -38,7 +38,8 @@ IsDecided told (lists.Stops None) = ⊥
 IsDecided told (lists.Stops (Some reach)) = reach.told ≡ told
 
 -- what a form with statements comes to, if memory did not run out
-abbrev pub Settles : {A B : Type 0} → Source → (A → B) → lists.Reader B → Here → Result (A × Here) Unread → Type 0
+abbrev pub Settles : {A B : Type 0} → Source → (A → B) → lists.Reader B → Here
+    → Result (A × Here) Unread → Type 0
 Settles source view reader from (Ok found) = IsRead source view reader from found.0 found.1
 Settles source view reader from (Err (unread.Refused reach)) =
     on_lists source reader from ≡ lists.Stops (option_map (reach_in source.bytes.now) reach)
@@ -47,9 +48,11 @@ Settles source view reader from (Err (unread.Deep told)) =
 Settles source view reader from (Err unread.NoMemory) = Unit {0}
 
 -- the same in any number of turns that is greater than that of the tokens
-abbrev pub SettlesIn : {A B : Type 0} → Source → (A → B) → (ℕ → lists.Reader B) → Here → Result (A × Here) Unread → Type 0
+abbrev pub SettlesIn : {A B : Type 0} → Source → (A → B) → (ℕ → lists.Reader B) → Here
+    → Result (A × Here) Unread → Type 0
 SettlesIn source view reader from result =
-    (turns : ℕ) → length from.place.rest.now < turns → Settles source view (reader turns) from result
+    (turns : ℕ) → length from.place.rest.now < turns
+    → Settles source view (reader turns) from result
 
 -- forms of each kind can be counted, so many more and one for each token that is left
 pub record IsRoomy (source : Source) (around : Nesting) (more : ℕ) (here : Here) : Type 0 where
@@ -104,7 +107,8 @@ head_read around =
 
 -- the same place, where something more ends at its next token
 pub record IsBegun (source : Source) (entry : Entry) (from to : Here) : Type 0 where
-  pub place : place_in source.bytes.now to.place ≡ lists.opened entry (place_in source.bytes.now from.place)
+  pub place : place_in source.bytes.now to.place
+      ≡ lists.opened entry (place_in source.bytes.now from.place)
   pub rises : to.place.limit ≡ None → from.place.limit ≡ None
   pub stays : to.place.at ≡ from.place.at
   pub rest : to.place.rest.now ≡ from.place.rest.now

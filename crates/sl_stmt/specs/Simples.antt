@@ -13,9 +13,10 @@ use Rattle.sl_cursor.specs.declared.source.Source.{Source}
 use Rattle.sl_cursor.specs.declared.source.Unread.{Unread}
 
 -- this is what lists have for an expression before a place
-pub record IsOf (bytes : List ℕ) (here : Here) (expr : ExprTree) (tree : trees.ExprTree) : Type 0 where
-  pub same : here.place.limit ≡ None → tree ≡ expr_in bytes expr
-  pub call : is_call tree ≡ is_call (expr_in bytes expr)
+pub record IsOf (bytes : List ℕ) (here : Here) (expr : ExprTree) (tree : trees.ExprTree) : Type 0
+  where
+    pub same : here.place.limit ≡ None → tree ≡ expr_in bytes expr
+    pub call : is_call tree ≡ is_call (expr_in bytes expr)
 
 -- what stands behind an expression
 abbrev pub FollowsExpr : Source → (trees.ExprTree → lists.Reader stmts.SimpleTree) → ExprTree → Here

@@ -36,7 +36,8 @@ piece_by text cut = record { class = cut.0; bytes = take cut.1 text }
 -- how many bytes stand before the first `*/`, or all where there is none
 abbrev pub before_end : List ℕ → ℕ
 before_end [] = 0
-before_end (b ∷ bytes) = if starts_with nat_eq (b ∷ bytes) (codes "*/") then 0 else suc (before_end bytes)
+before_end (b ∷ bytes) =
+    if starts_with nat_eq (b ∷ bytes) (codes "*/") then 0 else suc (before_end bytes)
 
 -- what `/*` with these bytes behind it begins
 abbrev pub block_comment : List ℕ → Cut
@@ -70,6 +71,7 @@ first_piece text =
     if is_white b then (definition.Space, prefix_len is_white text)
     else if is_word_byte b then (definition.Word, prefix_len is_word_byte text)
     else if b == 34 then quoted (drop 1 text)
-    else if starts_with nat_eq text (codes "//") then (definition.Comment, prefix_len is_in_line text)
+    else if starts_with nat_eq text (codes "//")
+    then (definition.Comment, prefix_len is_in_line text)
     else if starts_with nat_eq text (codes "/*") then block_comment (drop 2 text)
     else sign text

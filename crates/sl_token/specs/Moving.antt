@@ -37,11 +37,12 @@ verdict_in (verdict.Token kind) = definition.IsToken (kind_of kind)
 verdict_in (verdict.Fault code) = definition.IsFault code
 
 -- it is the token of so many bytes at a position
-pub record IsTokenAt (here : Position) (of : definition.Kind) (bytes : ℕ) (token : Token) : Type 0 where
-  pub kind : kind_of token.kind ≡ of
-  pub start : token.span.start ≡ here.offset
-  pub end : token.span.end ≡ here.offset + bytes
-  pub place : token.place ≡ here.place
+pub record IsTokenAt (here : Position) (of : definition.Kind) (bytes : ℕ) (token : Token) : Type 0
+  where
+    pub kind : kind_of token.kind ≡ of
+    pub start : token.span.start ≡ here.offset
+    pub end : token.span.end ≡ here.offset + bytes
+    pub place : token.place ≡ here.place
 
 -- the tokens with the one that a verdict makes of so many bytes
 abbrev pub Adds : definition.Verdict → Position → ℕ → List Token → List Token → Type 0

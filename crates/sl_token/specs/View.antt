@@ -52,7 +52,8 @@ tokens_in source tokens = map (token_in source) tokens
 
 -- a refusal tells a fault for which this holds, if memory did not run out
 abbrev pub Tells : (definition.Fault → Type 0) → Refusal → Type 0
-Tells IsTold (refusal.Diag at code args) = IsTold (record { place = place_of at; code = code; args = args })
+Tells IsTold (refusal.Diag at code args) =
+    IsTold (record { place = place_of at; code = code; args = args })
 Tells IsTold refusal.NoMemory = Unit {0}
 
 -- a number's type as the definitions have it

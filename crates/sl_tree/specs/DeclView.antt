@@ -104,7 +104,10 @@ arg_in source arg =
 -- the block that a tree stands for
 abbrev pub block_in : List ℕ → BlockTree → trees.BlockTree
 block_in source block =
-    record { opening = token_in source block.opening; stmts = stmts_of (map (stmt_in source) block.stmts) }
+    record {
+      opening = token_in source block.opening;
+      stmts = stmts_of (map (stmt_in source) block.stmts);
+    }
 
 -- the fields that a tree stands for
 abbrev pub field_in : List ℕ → FieldTree → trees.FieldTree
@@ -285,4 +288,7 @@ decl_in source (decl.Function function) = trees.Function (function_in source fun
 -- the module that a tree stands for
 abbrev pub module_in : List ℕ → ModuleTree → trees.ModuleTree
 module_in source tree =
-    record { name = option_map (token_in source) tree.name; decls = map (decl_in source) tree.decls }
+    record {
+      name = option_map (token_in source) tree.name;
+      decls = map (decl_in source) tree.decls;
+    }

@@ -129,7 +129,8 @@ type_in source type = fold-TypeTree types.TypeTree (type_by source) type
 -- an expression whose parts stand for these
 abbrev pub expr_by : List ℕ → ExprTree-F exprs.ExprTree → exprs.ExprTree
 expr_by source (expr_layer.Number token) = exprs.Number (token_in source token)
-expr_by source (expr_layer.BooleanLiteral value token) = exprs.BooleanLiteral value (token_in source token)
+expr_by source (expr_layer.BooleanLiteral value token) =
+    exprs.BooleanLiteral value (token_in source token)
 expr_by source (expr_layer.Itself token) = exprs.Itself (token_in source token)
 expr_by source (expr_layer.Name token args) =
     exprs.Name (token_in source token) (types_of (map (type_in source) args))
@@ -139,7 +140,8 @@ expr_by source (expr_layer.OwnType token) = exprs.OwnType (token_in source token
 expr_by source (expr_layer.Group opening inner) = exprs.Group (token_in source opening) inner
 expr_by source (expr_layer.Call callee opening args) =
     exprs.Call callee (token_in source opening) (exprs_of args)
-expr_by source (expr_layer.Index base opening index) = exprs.Index base (token_in source opening) index
+expr_by source (expr_layer.Index base opening index) =
+    exprs.Index base (token_in source opening) index
 expr_by source (expr_layer.Member base name) = exprs.Member base (token_in source name)
 expr_by source (expr_layer.Unary operator token operand) =
     exprs.Unary (unary_of operator) (token_in source token) operand
@@ -163,12 +165,16 @@ init_in source (init.Fields opening values) =
 -- the name with its initialiser that a tree stands for
 abbrev pub declarator_in : List ℕ → Declarator → stmts.Declarator
 declarator_in source declarator =
-    record { name = token_in source declarator.name; init = option_map (init_in source) declarator.init }
+    record {
+      name = token_in source declarator.name;
+      init = option_map (init_in source) declarator.init;
+    }
 
 -- the local that a tree stands for
 abbrev pub local_in : List ℕ → LocalTree → stmts.LocalTree
 local_in source (local.Typed word type declarators) =
-    stmts.Typed (option_map (token_in source) word) (type_in source type) (map (declarator_in source) declarators)
+    stmts.Typed (option_map (token_in source) word) (type_in source type)
+    (map (declarator_in source) declarators)
 local_in source (local.Inferred binding word name type value) =
     stmts.Inferred (binding_of binding) (token_in source word) (token_in source name)
     (option_map (type_in source) type) (expr_in source value)
@@ -176,7 +182,8 @@ local_in source (local.Inferred binding word name type value) =
 -- the simple statement that a tree stands for
 abbrev pub simple_in : List ℕ → SimpleTree → stmts.SimpleTree
 simple_in source (simple.Assign assignment token place value) =
-    stmts.Assign (assignment_of assignment) (token_in source token) (expr_in source place) (expr_in source value)
+    stmts.Assign (assignment_of assignment) (token_in source token) (expr_in source place)
+    (expr_in source value)
 simple_in source (simple.PostfixStep step place token) =
     stmts.PostfixStep (step_of step) (expr_in source place) (token_in source token)
 simple_in source (simple.PrefixStep step token place) =
@@ -191,7 +198,8 @@ start_in source (start.SimpleStart simple) = stmts.SimpleStart (simple_in source
 
 -- a statement whose parts stand for these
 abbrev pub stmt_by : List ℕ → StmtTree-F stmts.StmtTree → stmts.StmtTree
-stmt_by source (stmt_layer.Block opening stmts') = stmts.Block (token_in source opening) (stmts_of stmts')
+stmt_by source (stmt_layer.Block opening stmts') =
+    stmts.Block (token_in source opening) (stmts_of stmts')
 stmt_by source (stmt_layer.Local local) = stmts.Local (local_in source local)
 stmt_by source (stmt_layer.Simple simple) = stmts.Simple (simple_in source simple)
 stmt_by source (stmt_layer.Empty semicolon) = stmts.Empty (token_in source semicolon)

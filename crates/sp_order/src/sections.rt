@@ -150,14 +150,11 @@ fn mode_numbers(places: &Places, place: usize) -> bool
             && places.operand_count(place) == 5)
 }
 
-// `NonWritable` ("Decoration").
-const DECORATION_NON_WRITABLE: u32 = 24;
-
 #[tactic(auto, unfolding(def_valid::specs::Sections::is_bare_decoration))]
 fn is_bare_decoration(number: u32) -> bool
     ensures { result ≡ sections.is_bare_decoration number }
 {
-    number == enumerant::DECORATION_BLOCK || number == DECORATION_NON_WRITABLE
+    number == enumerant::DECORATION_BLOCK || number == enumerant::DECORATION_NON_WRITABLE
 }
 
 #[tactic(auto, unfolding(def_valid::specs::Sections::is_numbered_decoration))]

@@ -56,8 +56,10 @@ pub record OpcodesAgree : Type 0 where
   pub integer_not_equal : opcode.INTEGER_NOT_EQUAL ≡ opcodes.integer_not_equal
   pub unsigned_greater_than : opcode.UNSIGNED_GREATER_THAN ≡ opcodes.unsigned_greater_than
   pub signed_greater_than : opcode.SIGNED_GREATER_THAN ≡ opcodes.signed_greater_than
-  pub unsigned_greater_than_equal : opcode.UNSIGNED_GREATER_THAN_EQUAL ≡ opcodes.unsigned_greater_than_equal
-  pub signed_greater_than_equal : opcode.SIGNED_GREATER_THAN_EQUAL ≡ opcodes.signed_greater_than_equal
+  pub unsigned_greater_than_equal : opcode.UNSIGNED_GREATER_THAN_EQUAL
+      ≡ opcodes.unsigned_greater_than_equal
+  pub signed_greater_than_equal : opcode.SIGNED_GREATER_THAN_EQUAL
+      ≡ opcodes.signed_greater_than_equal
   pub unsigned_less_than : opcode.UNSIGNED_LESS_THAN ≡ opcodes.unsigned_less_than
   pub signed_less_than : opcode.SIGNED_LESS_THAN ≡ opcodes.signed_less_than
   pub unsigned_less_than_equal : opcode.UNSIGNED_LESS_THAN_EQUAL ≡ opcodes.unsigned_less_than_equal
@@ -90,6 +92,7 @@ pub record EnumerantsAgree : Type 0 where
   pub decoration_block : enumerant.DECORATION_BLOCK ≡ enumerants.block
   pub decoration_array_stride : enumerant.DECORATION_ARRAY_STRIDE ≡ enumerants.array_stride
   pub decoration_built_in : enumerant.DECORATION_BUILT_IN ≡ enumerants.built_in
+  pub decoration_non_writable : enumerant.DECORATION_NON_WRITABLE ≡ enumerants.non_writable
   pub decoration_binding : enumerant.DECORATION_BINDING ≡ enumerants.binding
   pub decoration_descriptor_set : enumerant.DECORATION_DESCRIPTOR_SET ≡ enumerants.descriptor_set
   pub decoration_offset : enumerant.DECORATION_OFFSET ≡ enumerants.offset

@@ -59,6 +59,7 @@ kind_of (kind.Rest r) = definition.Rest (role_of r)
 abbrev pub entry_of : ℕ × Bor (List Kind) → definition.Entry
 entry_of e = definition.entry e.0 (map kind_of e.1.now)
 
--- what the instructions of an opcode have behind it by the first of these entries that has the opcode
+-- what the instructions of an opcode have behind it by the first of these entries that has the
+-- opcode
 abbrev pub kinds_among : List definition.Entry → ℕ → Option (List definition.Kind)
 kinds_among entries opcode = option_map (λ e. e.kinds) (find (λ e. e.opcode == opcode) entries)

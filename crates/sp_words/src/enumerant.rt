@@ -31,6 +31,9 @@ pub const DECORATION_ARRAY_STRIDE: u32 = 6;
 /// `BuiltIn` ("Decoration").
 pub const DECORATION_BUILT_IN: u32 = 11;
 
+/// `NonWritable` ("Decoration").
+pub const DECORATION_NON_WRITABLE: u32 = 24;
+
 /// `Binding` ("Decoration").
 pub const DECORATION_BINDING: u32 = 33;
 
