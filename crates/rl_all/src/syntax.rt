@@ -12,15 +12,12 @@ ghost use Rattle.sl_key.specs.declared.key.Kind.TheVariants.{Syntax};
 use crate::diagnostics::{diagnostic, no_module};
 use crate::rules::SlangRules;
 use rl_built::not_built;
-use sl_base::{Bytes, List, Name, NoMemory, Refusal};
+use sl_base::{Bytes, List, Name, NoMemory, Refusal, code};
 use sl_key::{Answer, Declarations, Good, Shared};
 use sl_syntax::syntax;
 use sl_token::Token;
 use sl_tree::ModuleTree;
 use std::alloc::Global;
-
-/// A form is not built yet.
-const UNBUILT: u16 = 100;
 
 impl SlangRules {
     /// The syntax of a module. E201 stands at the request where the sources do not have the module; else what is told
@@ -58,7 +55,7 @@ fn unbuilt(alloc: Global, name: &Name, token: Token) -> Result<Answer, NoMemory>
         ≡ answer_of Syntax (told name.now source (Bad (unbuilt (token_in source token))))) }
 {
     let args = List::new(alloc);
-    Ok(Answer::Bad(diagnostic(alloc, name, token.place, UNBUILT, args)?))
+    Ok(Answer::Bad(diagnostic(alloc, name, token.place, code::FORM_NOT_BUILT, args)?))
 }
 
 // The declarations of a module of whose text nothing is told.

@@ -13,13 +13,10 @@ use crate::diagnostics::diagnostic;
 use crate::rules::SlangRules;
 use crate::told::Told;
 use qe_rules::{Asker, Steps};
-use sl_base::{Bytes, Diag, List, NoMemory, Place};
+use sl_base::{Bytes, Diag, List, NoMemory, Place, code};
 use sl_key::{Answer, Good, Key, Kind, copy_diag, name_of};
 use std::alloc::Global;
 use std::sync::ledger::Ledger;
-
-/// The code of a circle of queries.
-const CIRCULAR: u16 = 901;
 
 /// The place of a module as a whole.
 const FIRST: Place = Place { line: 1, column: 1 };
@@ -126,7 +123,7 @@ fn tell_cycle<A: Asker<SlangRules>, L: Ledger>(
     let syntax = Key::of_module(alloc, Kind::Syntax, &least.path.module)?;
     let place = place_in(&ask(alloc, asker, &syntax, steps)?, least);
     let keys = texts_of(alloc, cycle)?;
-    let diag = diagnostic(alloc, &least.path.module, place, CIRCULAR, keys)?;
+    let diag = diagnostic(alloc, &least.path.module, place, code::CIRCULAR, keys)?;
     push(alloc, told, diag)
 }
 

@@ -4,11 +4,12 @@ ghost use Rattle.std.specs.Prelude.{◌≡◌, IsTrue, IfOk, OnOk, ◌++◌, len
 ghost use Rattle.def_slang.specs.Diagnostic.{takes, weave, circle_text, message};
 ghost use Rattle.sl_base.specs.Diag.{site_text, diagnostic_text};
 
+use crate::code;
 use crate::list::{Bytes, List};
 use crate::memory::NoMemory;
 use crate::name::Name;
 use crate::place::Place;
-use crate::texts::{CIRCULAR, pieces_of};
+use crate::texts::pieces_of;
 use std::alloc::Global;
 
 /// What a diagnostic speaks of: the request as a whole, or a place in a module's source.
@@ -73,7 +74,7 @@ impl Diag {
         ensures { OnOk result (text.new ≡ text.old ++ message self.now.code self.now.args) }
     {
         let args = self.args.as_slice();
-        if self.code == CIRCULAR {
+        if self.code == code::CIRCULAR {
             push_circle(text, args)
         } else {
             push_woven(text, pieces_of(self.code), args)

@@ -1,6 +1,7 @@
 //! Names, places, lists, diagnostics, refusals and tables, on which every other crate stands.
 #![tactic(auto)]
 
+pub mod code;
 mod diag;
 mod list;
 mod memory;

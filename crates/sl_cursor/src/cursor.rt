@@ -4,16 +4,8 @@ ghost use Rattle.std.specs.Prelude.{◌≡◌, ℕ, suc, nat_lt, ◌+◌, ◌-�
 ghost use Rattle.def_reading.specs.Cursor as lists;
 ghost use Rattle.sl_token.specs.View.{token_in};
 
+use sl_base::code;
 use sl_token::Token;
-
-/// No tree continues a token.
-pub const UNEXPECTED: u16 = 110;
-
-/// A token opens a form too deep.
-pub const TOO_DEEP: u16 = 111;
-
-/// An expression has too many tokens.
-pub const TOO_LONG: u16 = 112;
 
 /// How many forms of a kind may be open at a place.
 pub const MOST_OPEN: usize = 64;
@@ -81,7 +73,7 @@ impl<'a> Cursor<'a> {
             Some(Told {
                 at: self.at,
                 token,
-                code: TOO_DEEP,
+                code: code::NESTING_TOO_DEEP,
             })
         } else {
             self.limit

@@ -7,7 +7,8 @@ ghost use Rattle.def_reading.specs.Cursor as lists;
 ghost use Rattle.def_reading.specs.Try.{settled};
 ghost use Rattle.sl_cursor.specs.Seen.{place_in, reach_in, told_in};
 
-use crate::cursor::{Cursor, FarthestFailure, Told, UNEXPECTED};
+use crate::cursor::{Cursor, FarthestFailure, Told};
+use sl_base::code;
 
 /// What is told, if it is told of the tokens before this one.
 pub fn before(at: usize, told: Option<Told>) -> Option<Told>
@@ -54,7 +55,7 @@ fn unexpected(place: &Cursor<'_>) -> Option<Told>
     Some(Told {
         at: place.at,
         token: *token,
-        code: UNEXPECTED,
+        code: code::UNEXPECTED_TOKEN,
     })
 }
 

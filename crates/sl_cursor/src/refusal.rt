@@ -5,9 +5,8 @@ ghost use Rattle.def_tree.specs.Fault.{fault_at, named_by};
 ghost use Rattle.sl_token.specs.View.{kind_of, token_in, slice_of};
 ghost use Rattle.sl_cursor.specs.Parts.{TellsThis, TellsUnread};
 
-use crate::cursor::UNEXPECTED;
 use crate::source::Unread;
-use sl_base::{Bytes, List, NoMemory, Place, Refusal};
+use sl_base::{Bytes, List, NoMemory, Place, Refusal, code};
 use sl_token::{Kind, Span, Token, text_at};
 use std::alloc::Global;
 
@@ -17,7 +16,7 @@ pub fn refusal_of(alloc: Global, source: &[u8], unread: Unread) -> Refusal
 {
     match unread {
         Unread::Refused(Some(reach)) => refusal(alloc, source, reach.told.code, reach.told.token),
-        Unread::Refused(None) => refusal(alloc, source, UNEXPECTED, NO_TOKEN),
+        Unread::Refused(None) => refusal(alloc, source, code::UNEXPECTED_TOKEN, NO_TOKEN),
         Unread::Deep(told) => refusal(alloc, source, told.code, told.token),
         Unread::NoMemory => Refusal::NoMemory,
     }
@@ -49,7 +48,7 @@ fn args_at(alloc: Global, source: &[u8], code: u16, token: Token) -> Result<List
     ensures { IfOk result (λ args. args ≡ (fault_at code (token_in source.now token)).args) }
 {
     let mut args = List::new(alloc);
-    if code == UNEXPECTED {
+    if code == code::UNEXPECTED_TOKEN {
         args.push(List::from_slice(alloc, name_of(source, token))?)?;
     }
     Ok(args)

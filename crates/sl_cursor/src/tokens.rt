@@ -6,10 +6,11 @@ ghost use Rattle.def_tree.specs.Limits.{opens, plain};
 ghost use Rattle.sl_token.specs.View.{tokens_in};
 ghost use Rattle.sl_cursor.specs.Signs.{ends, is_text, narrows, numbers, texts};
 
-use crate::cursor::{Cursor, TOO_DEEP, Told, is_too_deep};
+use crate::cursor::{Cursor, Told, is_too_deep};
 use crate::reach::{further, reach_at, settled};
 use crate::signs::{begins_with, is_end, is_name, is_narrow, is_number, is_sign, is_text};
 use crate::source::{Here, Source, Unread};
+use sl_base::code;
 use sl_token::Token;
 
 impl<'a> Here<'a> {
@@ -23,7 +24,7 @@ impl<'a> Here<'a> {
             Some(Told {
                 at,
                 token,
-                code: TOO_DEEP,
+                code: code::NESTING_TOO_DEEP,
             })
         } else {
             self.place.limit

@@ -5,7 +5,7 @@ ghost use Rattle.def_slang.specs.Diagnostic.{takes};
 ghost use Rattle.sl_key.specs.Fault.{args_of, code_of, told_at};
 
 use crate::value::{Arithmetic, Ty};
-use sl_base::{Bytes, Diag, List, NoMemory, Site};
+use sl_base::{Bytes, Diag, List, NoMemory, Site, code};
 use std::alloc::Global;
 
 /// Which rule is broken.
@@ -43,13 +43,13 @@ impl Fault {
         ensures { result ≡ code_of self.now }
     {
         match self {
-            Fault::NotBuilt => 100,
-            Fault::NoModule(_) => 201,
-            Fault::UnknownName(_) => 301,
-            Fault::NoConversion(_, _) => 302,
-            Fault::NotAType(_) => 303,
-            Fault::NotAValue(_) => 304,
-            Fault::NotTaken(_, _) => 311,
+            Fault::NotBuilt => code::FORM_NOT_BUILT,
+            Fault::NoModule(_) => code::NO_MODULE,
+            Fault::UnknownName(_) => code::UNKNOWN_NAME,
+            Fault::NoConversion(_, _) => code::NO_CONVERSION,
+            Fault::NotAType(_) => code::NOT_A_TYPE,
+            Fault::NotAValue(_) => code::NOT_A_VALUE,
+            Fault::NotTaken(_, _) => code::OPERATOR_NOT_TAKEN,
         }
     }
 

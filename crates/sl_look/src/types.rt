@@ -7,8 +7,8 @@ ghost use Rattle.sl_tree.specs.View.{type_in, types_of, word_of};
 ghost use Rattle.def_reading.specs.TypeAhead.{args_at, found_as, list_ahead, path_from, type_ahead};
 
 use crate::stop::Stop;
-use sl_base::List;
-use sl_cursor::cursor::{Cursor, MOST_OPEN, TOO_DEEP, Told};
+use sl_base::{List, code};
+use sl_cursor::cursor::{Cursor, MOST_OPEN, Told};
 use sl_cursor::signs::{Lead, begins_with, is_name, is_sign, lead_of};
 use sl_token::Token;
 use sl_tree::{TypeTree, TypeWord};
@@ -144,7 +144,7 @@ impl Types<'_> {
             Err(Stop::Deep(Told {
                 at: place.at,
                 token: first,
-                code: TOO_DEEP,
+                code: code::NESTING_TOO_DEEP,
             }))
         }
     }

@@ -19,8 +19,8 @@ ghost use Rattle.sl_cursor.specs.Tries.{IsCallToo, IsIn, Tries};
 use crate::finish::release;
 use crate::frames::{Frames, leaf};
 use crate::machine::{Around, Mode, Step};
-use sl_base::NoMemory;
-use sl_cursor::cursor::{Cursor, FarthestFailure, MOST_TOKENS, TOO_LONG, Told};
+use sl_base::{NoMemory, code};
+use sl_cursor::cursor::{Cursor, FarthestFailure, MOST_TOKENS, Told};
 use sl_cursor::reach::{before, earlier, further, reach_at, settled};
 use sl_cursor::source::{Here, Unread};
 use sl_token::Token;
@@ -39,7 +39,7 @@ pub fn long_from(place: &Cursor<'_>) -> Option<Told>
     Some(Told {
         at: place.at + MOST_TOKENS,
         token: place.rest[MOST_TOKENS],
-        code: TOO_LONG,
+        code: code::EXPRESSION_TOO_LONG,
     })
 }
 

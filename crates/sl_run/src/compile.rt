@@ -11,7 +11,7 @@ ghost use Rattle.sl_run.specs.Reading.{write_of};
 use crate::buffer_write::BufferWrite;
 use crate::module::module;
 use crate::reply_text::diagnostic_line;
-use sl_base::{Bytes, Diag, List, Name, NameRefusal, NoMemory, Place, Site};
+use sl_base::{Bytes, Diag, List, Name, NameRefusal, NoMemory, Place, Site, code};
 use sp_words::encode;
 use std::alloc::Global;
 
@@ -58,7 +58,7 @@ fn no_entry_point(alloc: Global, entry: &[u8]) -> Result<Diag, NoMemory>
     args.push(Bytes::from_slice(alloc, INPUT)?)?;
     Ok(Diag {
         site: Site::Request,
-        code: 601,
+        code: code::NO_ENTRY_POINT,
         args,
     })
 }
@@ -72,7 +72,7 @@ fn not_built(alloc: Global) -> Result<Diag, NoMemory>
             module: input_name(alloc)?,
             place: Place { line: 1, column: 1 },
         },
-        code: 100,
+        code: code::FORM_NOT_BUILT,
         args: List::new(alloc),
     })
 }

@@ -6,15 +6,12 @@ ghost use Rattle.def_module.specs.Syntax.{Bad, Good, HasSyntax};
 ghost use Rattle.sl_token.specs.View.{Tells, token_in};
 ghost use Rattle.sl_tree.specs.DeclView.{module_in};
 
-use sl_base::{Bytes, List, NoMemory, Refusal};
+use sl_base::{Bytes, List, NoMemory, Refusal, code};
 use sl_parse_decl::parse;
 use sl_scopes::declared_twice;
 use sl_token::{Token, lex, text_at};
 use sl_tree::ModuleTree;
 use std::alloc::Global;
-
-/// A name is declared twice.
-const DECLARED_TWICE: u16 = 120;
 
 /// The tree of a text of which nothing is told.
 ///
@@ -41,7 +38,7 @@ fn twice(alloc: Global, text: &[u8], name: Token) -> Result<Refusal, NoMemory>
     args.push(Bytes::from_slice(alloc, text_at(text, name.span))?)?;
     Ok(Refusal::Diag {
         at: name.place,
-        code: DECLARED_TWICE,
+        code: code::DECLARED_TWICE,
         args,
     })
 }

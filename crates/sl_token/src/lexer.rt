@@ -10,8 +10,8 @@ ghost use Rattle.sl_token.specs.View.{IsWithin, Tells, tokens_in};
 use crate::piece::{Class, first_piece};
 use crate::position::Position;
 use crate::token::{Kind, Tokens};
-use crate::verdict::{UNEXPECTED_BYTE, Verdict, verdict_of};
-use sl_base::{Bytes, List, NoMemory, Place, Refusal};
+use crate::verdict::{Verdict, verdict_of};
+use sl_base::{Bytes, List, NoMemory, Place, Refusal, code};
 use std::alloc::Global;
 
 /// The UTF-8 byte order mark (Unicode, 23.8, "Specials").
@@ -95,7 +95,7 @@ fn args_of(alloc: Global, code: u16, piece: &[u8]) -> Result<List<Bytes>, NoMemo
     ensures { IfOk result (λ args. args ≡ args_of code piece.now) }
 {
     let mut args = List::new(alloc);
-    if code == UNEXPECTED_BYTE {
+    if code == code::UNEXPECTED_BYTE {
         args.push(hexadecimal_byte(alloc, first_byte(piece))?)?;
     }
     Ok(args)

@@ -10,18 +10,7 @@ use crate::keyword::is_keyword;
 use crate::number::number_of;
 use crate::piece::Class;
 use crate::token::Kind;
-use sl_base::is_name;
-
-/// The diagnostic of a byte that begins nothing.
-pub const UNEXPECTED_BYTE: u16 = 101;
-
-const COMMENT_NOT_CLOSED: u16 = 102;
-
-const BAD_NUMBER: u16 = 103;
-
-const NAME_TOO_LONG: u16 = 104;
-
-const STRING_NOT_CLOSED: u16 = 105;
+use sl_base::{code, is_name};
 
 /// What a piece is.
 #[derive(Clone, Copy, Debug, PartialEq, Eq)]
@@ -40,12 +29,12 @@ pub fn verdict_of(class: Class, piece: &[u8]) -> Verdict
 {
     match class {
         Class::Space | Class::Comment => Verdict::Skipped,
-        Class::OpenComment => Verdict::Fault(COMMENT_NOT_CLOSED),
+        Class::OpenComment => Verdict::Fault(code::COMMENT_NOT_CLOSED),
         Class::Word => word_verdict(piece),
         Class::Quoted => Verdict::Token(Kind::Text),
-        Class::OpenQuoted => Verdict::Fault(STRING_NOT_CLOSED),
+        Class::OpenQuoted => Verdict::Fault(code::STRING_NOT_CLOSED),
         Class::Symbol => Verdict::Token(Kind::Mark),
-        Class::Stray => Verdict::Fault(UNEXPECTED_BYTE),
+        Class::Stray => Verdict::Fault(code::UNEXPECTED_BYTE),
     }
 }
 
@@ -60,9 +49,9 @@ fn word_verdict(word: &[u8]) -> Verdict
     } else if number_of(word).is_some() {
         Verdict::Token(Kind::Number)
     } else if begins_with_digit(word) {
-        Verdict::Fault(BAD_NUMBER)
+        Verdict::Fault(code::BAD_NUMBER)
     } else {
-        Verdict::Fault(NAME_TOO_LONG)
+        Verdict::Fault(code::NAME_TOO_LONG)
     }
 }
 
